@@ -1,0 +1,4 @@
+pub mod Flags
+pub mod Values
+pub mod Whole
+pub mod Widths

@@ -1,0 +1,4 @@
+pub mod Distances
+pub mod Instructions
+pub mod Opcodes
+pub mod Words

@@ -1,0 +1,5 @@
+pub mod Borders
+pub mod Lenders
+pub mod Lent
+pub mod Stretches
+pub mod Uniform

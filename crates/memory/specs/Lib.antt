@@ -1,0 +1,5 @@
+pub mod Cells
+pub mod Laws
+pub mod Refusals
+pub mod Sides
+pub mod Slices
