@@ -1,0 +1,5 @@
+pub mod Ideal
+pub mod Mirror
+pub mod Outcomes
+pub mod Makes
+pub mod Chains

@@ -1,0 +1,4 @@
+pub mod Ulms
+pub mod Calls
+pub mod Laws
+pub mod Posts
