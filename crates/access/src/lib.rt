@@ -1,4 +1,6 @@
 // Loads, stores and fetches: accesses to several cells of a memory, highest byte first.
+#![tactic(auto)]
+
 pub mod fault;
 pub mod load;
 pub mod store;

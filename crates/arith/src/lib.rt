@@ -1,4 +1,6 @@
 // Sizes of data, and arithmetic on words of 64 bits, stated on whole numbers.
+#![tactic(auto)]
+
 pub mod bits;
 pub mod flags;
 pub mod loads;

@@ -1,4 +1,6 @@
 // Lists of calls on one job.
+#![tactic(auto)]
+
 ghost use Rattle.std.specs.Prelude.{◌≡◌, ◌≤◌, length};
 ghost use Rattle.console.specs.Refusals.{numbered};
 ghost use Rattle.job.specs.Jobs.{stop_of};

@@ -1,4 +1,6 @@
 // What a machine and its caller ask of a console: bytes to read, bytes to hold.
+#![tactic(auto)]
+
 ghost use Rattle.std.specs.Prelude.{◌≡◌, ◌++◌, length, take, drop};
 ghost use Rattle.console.specs.Refusals.{numbered};
 ghost use Rattle.console.specs.Streams.{Con, read_says, after_read, put_says, after_put, feed_says, after_feed, close_says, after_close, take_says, after_take};

@@ -1,4 +1,6 @@
 // The listing of an image: raw bytes as the lines that place them.
+#![tactic(auto)]
+
 ghost use Rattle.std.specs.Prelude.{◌≡◌, ◌≤◌, ◌++◌, length, IfOk, string_bytes, codes, decimal, OnOk};
 ghost use Rattle.lines.specs.Lines.{line_of};
 ghost use Rattle.disassembler.specs.Listings.{byte_line, byte_lines, word_lines, listing_of, printed};

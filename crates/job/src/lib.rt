@@ -1,4 +1,6 @@
 // Jobs: one execution of a rule, run in pieces.
+#![tactic(auto)]
+
 ghost use Rattle.std.specs.Prelude.{◌≡◌, replicate};
 ghost use Rattle.job.specs.Jobs.{first_job, state_of_paused, paused_at, ended_at, RunSo};
 

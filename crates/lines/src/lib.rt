@@ -1,4 +1,6 @@
 // The one line of each instruction: writing it, and reading it back.
+#![tactic(auto)]
+
 pub mod argument;
 pub mod line;
 mod names;

@@ -1,4 +1,6 @@
 // The machine: registers, faults, and one try of an instruction over any memory and any console.
+#![tactic(auto)]
+
 pub mod attempt;
 pub mod bank;
 mod compute;

@@ -1,4 +1,6 @@
 // Memories: lists of byte cells, each with a fixed mark that says whether it may be written.
+#![tactic(auto)]
+
 pub mod cells;
 pub mod fixed;
 pub mod joined;

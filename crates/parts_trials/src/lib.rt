@@ -1,4 +1,6 @@
 // Memories, shown parts and accesses on examples.
+#![tactic(auto)]
+
 #[cfg(test)]
 mod tests {
     use access::fault::{Access, AccessFault, Cause};

@@ -1,5 +1,7 @@
 // A queue of bytes in a lent buffer, with constant work for each byte. The bytes lie from `start` on, and past the
 // buffer's end on from its beginning. Nothing is shifted, and the place of a byte that left is free at once.
+#![tactic(auto)]
+
 ghost use Rattle.std.specs.Prelude.{◌≡◌, ◌+◌, ◌-◌, ◌<◌, ◌≤◌, min, [], ◌∷◌, ◌++◌, length, take, drop, if◌then◌else◌, nat_le, nat_lt};
 ghost use Rattle.ring.specs.Queues.{first_of, rest_of, turned, ring_list, wrapped, items, size};
 

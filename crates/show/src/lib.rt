@@ -1,4 +1,6 @@
 // The part of a rule or of a work slice that holds a range of addresses.
+#![tactic(auto)]
+
 ghost use Rattle.std.specs.Prelude.{◌≡◌, ◌+◌, ◌≤◌, length, take, drop, MatchOption, MatchResult};
 ghost use Rattle.show.specs.Ranges.{Shows, IsInNeither, number};
 

@@ -1,4 +1,6 @@
 // Prints the listing of an image: raw bytes on standard input, lines on standard output.
+#![tactic(auto)]
+
 use disassembler::disassemble;
 use std::io;
 use std::io::{Read, Write};

@@ -1,4 +1,6 @@
 // Worked values that the check proves.
+#![tactic(auto)]
+
 ghost use Rattle.std.specs.Prelude.{◌≡◌};
 ghost use Rattle.trials.specs.Values.{words, TrialValues};
 

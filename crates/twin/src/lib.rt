@@ -1,4 +1,6 @@
 // Two jobs on two boxes of any kinds, and that they are alike.
+#![tactic(auto)]
+
 ghost use Rattle.calls.specs.Calls.{asks_of};
 ghost use Rattle.calls.specs.Posts.{scene, PerformSo};
 ghost use Rattle.twin.specs.Twins.{TwinsIf};

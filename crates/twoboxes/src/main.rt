@@ -1,5 +1,7 @@
 // One rule over one document on two boxes that are built differently.
 // The rule's key is the first byte of each line of its document, and then the low byte of the sum of all its bytes.
+#![tactic(auto)]
+
 use calls::{Call, Performed};
 use consoles::page::Page;
 use consoles::tray::Tray;
