@@ -5,7 +5,7 @@ use Rattle.calls.proofs.make.Goals.{then-most-left, else-most-left}
 
 pub returns-in-Run : goal.returns-in-Run
 returns-in-Run g c =
-    run_made _ _ c.requires _ _ _ _ _ _ _ _ _ _ c.in-Run.is c.run-or-pass.ensures.marks c.run-or-pass.ensures.loans c.run-or-pass.ensures.ran
+    run_made _ _ c.requires _ _ _ _ _ _ _ _ _ _ c.in-Run.is c.run_or_pass.ensures.marks c.run_or_pass.ensures.loans c.run_or_pass.ensures.ran
 
 pub returns-after-most-left : goal.returns-after-most-left
 returns-after-most-left g c =

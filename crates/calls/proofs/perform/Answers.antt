@@ -4,9 +4,9 @@ use Rattle.calls.proofs.perform.Goals as goal
 
 pub loop-call-init : goal.loop-call-init
 loop-call-init g c = (
-  begun _ _ _ _ _ c.args.calls.now _ _ _ c.new.ensures.cleared c.new.ensures.job c.in-ok-answers.ensures.items,
-  c.in-ok-answers.ensures.len,
-  c.in-ok-answers.ensures.capacity,
+  begun _ _ _ _ _ c.args.calls.now _ _ _ c.new.ensures.cleared c.new.ensures.job c.in_ok-answers.ensures.items,
+  c.in_ok-answers.ensures.len,
+  c.in_ok-answers.ensures.capacity,
 )
 
 pub make-next-requires : goal.make-next-requires

@@ -6,7 +6,7 @@ pub returns-in-Paused-outcome : goal.returns-in-Paused-outcome
 returns-in-Paused-outcome g c = record {
   marks = c.in-Ok.ensures.marks;
   loans = c.in-Ok.ensures.loans;
-  ran = run-paused _ _ _ _ _ _ _ c.in-Paused.is _ _ _ _ c.in-Paused-outcome.next c.in-Paused-outcome.reason _ c.in-Ok.ensures.ran c.in-Paused-outcome.is c.why-stopped.ensures;
+  ran = run-paused _ _ _ _ _ _ _ c.in-Paused.is _ _ _ _ c.in-Paused-outcome.next c.in-Paused-outcome.reason _ c.in-Ok.ensures.ran c.in-Paused-outcome.is c.why_stopped.ensures;
 }
 
 pub returns-in-Ended-outcome : goal.returns-in-Ended-outcome

@@ -8,7 +8,7 @@ loop-byte-preserved c =
     let bs = c.args.bytes.now in
     let i = c.loop-byte.byte-index in
     let rest = byte_lines (drop (i + 1) bs) in
-    ap (λ l. l ++ rest) c.in-ok-put-byte.ensures
+    ap (λ l. l ++ rest) c.in_ok-put_byte.ensures
     ∙ append_assoc (vec_items c.loop-byte.out) (byte_line (get_or bs i 0)) rest
     ∙ ap (λ l. vec_items c.loop-byte.out ++ l) (sym (at_drop_more byte_lines bs i 0 c.loop-byte-test.true))
     ∙ c.loop-byte.invariant

@@ -5,6 +5,6 @@ use Rattle.access.proofs.load.of_width.Goals as goal
 
 pub returns : goal.returns
 returns g c =
-    let bare = c.in-ok-number.ensures in
+    let bare = c.in_ok-number.ensures in
     ap Ok (c.widen.ensures ∙ ap (widened c.args.extension c.args.width) (mod-eq_of_lt bare.small))
     ∙ ap (widely c.args.extension c.args.width) bare.value

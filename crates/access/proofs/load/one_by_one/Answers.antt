@@ -7,8 +7,8 @@ pub loop-k-preserved : goal.loop-k-preserved
 loop-k-preserved g c =
     let cells = g.M.Memory.cells c.args.memory.now in
     let k = c.loop-k.k in
-    let byte = c.in-ok-bytes.field-0 in
-    let read = read_ok cells (c.args.at + k) byte c.in-ok-bytes.ensures in
+    let byte = c.in_ok-bytes.field-0 in
+    let read = read_ok cells (c.args.at + k) byte c.in_ok-bytes.ensures in
     let room : k < length c.loop-k.bytes = search rules in (
       length-set c.loop-k.bytes k byte ∙ c.loop-k.invariant.0,
       take_more_set c.loop-k.bytes k byte room

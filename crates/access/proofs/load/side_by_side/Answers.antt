@@ -11,8 +11,8 @@ returns-then-size-near g c =
     let whole : size - 0 ≡ size = omega arith in
     let some : 0 < size = search rules in
     let aligned : c.args.at % size ≡ 0 = search rules in (
-      ap Ok (c.number-in.ensures.value ∙ ap (λ n. number_from_digits 256 (take n near)) whole)
+      ap Ok (c.number_in.ensures.value ∙ ap (λ n. number_from_digits 256 (take n near)) whole)
           ∙ found_near (g.M.Memory.cells c.args.memory.now) near c.args.at size c.stretch-near.ensures c.if-size-near.true some aligned,
-      subst (λ n. c.number-in.result < 2 ^ (8 * n))
-          (ap (λ n. length (take n near)) whole ∙ length-take-le size near c.if-size-near.true) c.number-in.ensures.small,
+      subst (λ n. c.number_in.result < 2 ^ (8 * n))
+          (ap (λ n. length (take n near)) whole ∙ length-take-le size near c.if-size-near.true) c.number_in.ensures.small,
     )

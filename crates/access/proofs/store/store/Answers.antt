@@ -6,7 +6,7 @@ use Rattle.access.proofs.store.store.Goals as goal
 
 pub returns : goal.returns
 returns g c =
-    let done = c.of-width.ensures in
+    let done = c.of_width.ensures in
     let answer = c.tell.ensures ∙ ap (told Access.Store c.args.at c.args.width) done.answer in
     let memory = c.args.memory.now in
     record {

@@ -6,7 +6,7 @@ use Rattle.isa.proofs.word.decode.Goals as goal
 pub returns : goal.returns
 returns c =
     let n : length c.args.word ≡ 4 = search rules in
-    let v : c.instruction-of.result ≡ decoded c.args.word = c.instruction-of.ensures in
+    let v : c.instruction_of.result ≡ decoded c.args.word = c.instruction_of.ensures in
     record {
       value = v;
       inverse =

@@ -5,5 +5,5 @@ use Rattle.isa.proofs.word.encode.Goals as goal
 
 pub returns : goal.returns
 returns c =
-    let e = c.word-of.ensures in
+    let e = c.word_of.ensures in
     record { value = e; inverse = ap decoded e ∙ decoded_encoded c.args.instruction c.formed.ensures }

@@ -19,7 +19,7 @@ pub returns-in-Halts : goal.returns-in-Halts
 returns-in-Halts g c = record {
   marks = c.in-Halts.ensures.marks ∙ c.loop-steps.invariant.1;
   loans = c.in-Halts.ensures.loans ∙ c.loop-steps.invariant.2;
-  ran = accepted _ _ _ _ _ _ _ _ _ _ c.ended-at-outcome.ensures refl (search rules)
+  ran = accepted _ _ _ _ _ _ _ _ _ _ c.ended_at-outcome.ensures refl (search rules)
       (record {
         within = omega arith;
         reached = last_one _ _ _ _ _ _ _ _ _ c.loop-steps.invariant.1 c.loop-steps.invariant.3 c.in-Halts.ensures.tried.0 c.in-Halts.ensures.tried.1;
@@ -32,7 +32,7 @@ pub returns-in-Traps : goal.returns-in-Traps
 returns-in-Traps g c = record {
   marks = c.in-Traps.ensures.marks ∙ c.loop-steps.invariant.1;
   loans = c.in-Traps.ensures.loans ∙ c.loop-steps.invariant.2;
-  ran = accepted _ _ _ _ _ _ _ _ _ _ c.ended-at-outcome-in-Traps.ensures refl (search rules)
+  ran = accepted _ _ _ _ _ _ _ _ _ _ c.ended_at-outcome-in-Traps.ensures refl (search rules)
       (record {
         within = omega arith;
         reached = last_one _ _ _ _ _ _ _ _ _ c.loop-steps.invariant.1 c.loop-steps.invariant.3 c.in-Traps.ensures.tried.0 c.in-Traps.ensures.tried.1;
@@ -45,7 +45,7 @@ pub returns-in-Waits : goal.returns-in-Waits
 returns-in-Waits g c = record {
   marks = c.in-Waits.ensures.marks ∙ c.loop-steps.invariant.1;
   loans = c.in-Waits.ensures.loans ∙ c.loop-steps.invariant.2;
-  ran = accepted _ _ _ _ _ _ _ _ _ _ c.paused-at-outcome-in-Waits.ensures refl (search rules)
+  ran = accepted _ _ _ _ _ _ _ _ _ _ c.paused_at-outcome-in-Waits.ensures refl (search rules)
       (waited _ _ _ _ _ _ _ _ _ c.loop-steps.invariant.1 c.if-steps-budget.false c.loop-steps.invariant.3 c.in-Waits.ensures.tried.1 c.in-Waits.ensures.tried.0)
       refl;
 }
@@ -54,7 +54,7 @@ pub returns-in-Full : goal.returns-in-Full
 returns-in-Full g c = record {
   marks = c.in-Full.ensures.marks ∙ c.loop-steps.invariant.1;
   loans = c.in-Full.ensures.loans ∙ c.loop-steps.invariant.2;
-  ran = accepted _ _ _ _ _ _ _ _ _ _ c.paused-at-outcome-in-Full.ensures refl (search rules)
+  ran = accepted _ _ _ _ _ _ _ _ _ _ c.paused_at-outcome-in-Full.ensures refl (search rules)
       (filled_up _ _ _ _ _ _ _ _ _ c.loop-steps.invariant.1 c.if-steps-budget.false c.loop-steps.invariant.3 c.in-Full.ensures.tried.1 c.in-Full.ensures.tried.0)
       refl;
 }
@@ -63,7 +63,7 @@ pub returns-in-Fails : goal.returns-in-Fails
 returns-in-Fails g c = record {
   marks = c.in-Fails.ensures.marks ∙ c.loop-steps.invariant.1;
   loans = c.in-Fails.ensures.loans ∙ c.loop-steps.invariant.2;
-  ran = accepted _ _ _ _ _ _ _ _ _ _ c.ended-at-outcome-in-Fails.ensures refl (search rules)
+  ran = accepted _ _ _ _ _ _ _ _ _ _ c.ended_at-outcome-in-Fails.ensures refl (search rules)
       (failed _ _ _ _ _ _ _ _ _ c.loop-steps.invariant.1 c.if-steps-budget.false c.loop-steps.invariant.3 c.in-Fails.ensures.tried.1 c.in-Fails.fault c.in-Fails.ensures.tried.0)
       refl;
 }
@@ -72,5 +72,5 @@ pub returns-then-steps-budget : goal.returns-then-steps-budget
 returns-then-steps-budget g c = record {
   marks = c.loop-steps.invariant.1;
   loans = c.loop-steps.invariant.2;
-  ran = accepted _ _ _ _ _ _ _ _ _ _ c.paused-at-outcome.ensures refl (search rules) (record { within = c.loop-steps.invariant.0; reached = c.loop-steps.invariant.3; because = (omega arith, refl) }) refl;
+  ran = accepted _ _ _ _ _ _ _ _ _ _ c.paused_at-outcome.ensures refl (search rules) (record { within = c.loop-steps.invariant.0; reached = c.loop-steps.invariant.3; because = (omega arith, refl) }) refl;
 }

@@ -2,7 +2,7 @@ use Rattle.std.proofs.Common.{◌≡◌, ◌+◌, [], get_or, drop, sym, ap, ◌
 use Rattle.lines.specs.Pieces.{pieces}
 use Rattle.lines.proofs.Cuts.{skip_separator, skip_other, at_end}
 use Rattle.lines.proofs.pieces.begins.Goals as goal
-use Rattle.lines.proofs.pieces.begins.Goals.{then-is-separator, else-is-separator}
+use Rattle.lines.proofs.pieces.begins.Goals.{then-is_separator, else-is_separator}
 
 pub loop-left-preserved : goal.loop-left-preserved
 loop-left-preserved c =
@@ -10,13 +10,13 @@ loop-left-preserved c =
     let at = c.loop-left.at in
     let k = c.loop-left.left in (
       omega arith,
-      elim c.if-is-separator.branch [
-        | then-is-separator w ↦
+      elim c.if-is_separator.branch [
+        | then-is_separator w ↦
             ap (λ n. get_or (pieces (drop (at + 1) text)) n []) w.left-is
-            ∙ skip_separator text at k (omega arith) (sym w.if-is-separator.ensures) (omega arith) ∙ c.loop-left.invariant.1
-        | else-is-separator w ↦
+            ∙ skip_separator text at k (omega arith) (sym w.if-is_separator.ensures) (omega arith) ∙ c.loop-left.invariant.1
+        | else-is_separator w ↦
             ap (λ n. get_or (pieces (drop (at + 1) text)) n []) w.left-is
-            ∙ skip_other text at k (omega arith) (sym w.if-is-separator.ensures) (omega arith) ∙ c.loop-left.invariant.1
+            ∙ skip_other text at k (omega arith) (sym w.if-is_separator.ensures) (omega arith) ∙ c.loop-left.invariant.1
       ],
     )
 

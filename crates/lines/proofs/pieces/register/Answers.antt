@@ -7,4 +7,4 @@ pub returns : goal.returns
 returns c =
     let s = c.args.text.now in
     let d = c.digits.ensures ∙ ap (digits_after 0) (take_rest s 1) in
-    ap (λ k. k % 2 ^ 8) d ∙ ap (λ b. cond b (digits_after 0 (drop 1 s) % 2 ^ 8) 0) c.if-not-starts-with.ensures
+    ap (λ k. k % 2 ^ 8) d ∙ ap (λ b. cond b (digits_after 0 (drop 1 s) % 2 ^ 8) 0) c.if-not-starts_with.ensures

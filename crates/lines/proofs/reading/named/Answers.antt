@@ -5,18 +5,18 @@ use Rattle.lines.proofs.Searches.{found, passed}
 use Rattle.lines.proofs.reading.named.Goals as goal
 
 pub loop-base-init : goal.loop-base-init
-loop-base-init c = ap (named_in c.args.text.now) c.all-bases-all.ensures
+loop-base-init c = ap (named_in c.args.text.now) c.all_bases-all.ensures
 
-pub returns-then-has-name : goal.returns-then-has-name
-returns-then-has-name c =
-    sym (found c.args.text.now c.all-bases-all.result.now c.loop-base.base_index _ c.loop-base-test.true (sym c.if-has-name.ensures))
+pub returns-then-has_name : goal.returns-then-has_name
+returns-then-has_name c =
+    sym (found c.args.text.now c.all_bases-all.result.now c.loop-base.base_index _ c.loop-base-test.true (sym c.if-has_name.ensures))
     ∙ c.loop-base.invariant
 
 pub loop-base-preserved : goal.loop-base-preserved
 loop-base-preserved c =
-    passed c.args.text.now c.all-bases-all.result.now c.loop-base.base_index _ c.loop-base-test.true (sym c.if-has-name.ensures)
+    passed c.args.text.now c.all_bases-all.result.now c.loop-base.base_index _ c.loop-base-test.true (sym c.if-has_name.ensures)
     ∙ c.loop-base.invariant
 
 pub returns : goal.returns
 returns c =
-    sym (at_drop_all (named_in c.args.text.now) c.all-bases-all.result.now c.loop-base.base_index (omega arith)) ∙ c.loop-base.invariant
+    sym (at_drop_all (named_in c.args.text.now) c.all_bases-all.result.now c.loop-base.base_index (omega arith)) ∙ c.loop-base.invariant

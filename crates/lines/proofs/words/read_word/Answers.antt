@@ -2,8 +2,8 @@ use Rattle.std.proofs.Common.{sym, ◌∙◌}
 use Rattle.lines.proofs.Guesses.{lines_differ, no_word, one_word}
 use Rattle.lines.proofs.words.read_word.Goals as goal
 
-pub returns-in-default : goal.returns-in-default
-returns-in-default c = record { reads = no_word c.args.text.now c.in-default.ensures; differ = lines_differ }
+pub returns-in_default : goal.returns-in_default
+returns-in_default c = record { reads = no_word c.args.text.now c.in_default.ensures; differ = lines_differ }
 
 pub returns : goal.returns
 returns c =

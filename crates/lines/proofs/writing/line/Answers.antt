@@ -22,8 +22,8 @@ returns c =
     let o = c.opcode-opcode.ensures in
     let f = c.fields-x.ensures in
     let n = c.name.ensures ∙ ap name_of o in
-    let a : c.arguments-of.result ≡ arguments (opcode i) (fields i).0 (fields i).1 (fields i).2 = cc in
+    let a : c.arguments_of.result ≡ arguments (opcode i) (fields i).0 (fields i).1 (fields i).2 = cc in
     let front = then _ _ _ _ _ c.push.ensures (same _ _ _ _ n c.put.ensures) in
-    let most = then _ _ _ _ _ front (same _ _ _ _ (ap trailing a) c.put-arguments.ensures) in
+    let most = then _ _ _ _ _ front (same _ _ _ _ (ap trailing a) c.put_arguments.ensures) in
     let bytes = fields_fit c in
     whole _ _ _ c.new-line.ensures (short_line (opcode i) (fields i).0 (fields i).1 (fields i).2 bytes.0 bytes.1 bytes.2) (then _ _ _ _ _ most c.push-2.ensures)

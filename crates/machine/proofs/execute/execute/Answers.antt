@@ -19,7 +19,7 @@ returns-in-Load g c =
       left =
           computed_left core con c.args.at.word
           (loads regs c.args.at.flags i.to (loaded cells (address_in regs i.address) (width_of i.kind) (extension_of i.kind)))
-          _ _ _ c.load-into.ensures c.settle.ensures
+          _ _ _ c.load_into.ensures c.settle.ensures
           ∙ same_left (g.M.Memory.marks c.args.memory.now) core con c.args.at.word _ _ i.is;
     }
 
@@ -29,7 +29,7 @@ returns-in-Store g c =
     let marks = g.M.Memory.marks c.args.memory.now in
     let core = core_of regs c.args.at.flags c.args.at.place (g.M.Memory.cells c.args.memory.now) in
     let con = g.C.Console.view c.args.console.now in
-    let done = c.store-from.ensures in
+    let done = c.store_from.ensures in
     let i = c.in-Store in
     record {
       marks = done.marks;
@@ -79,6 +79,6 @@ returns-in-Put g c =
       loans = refl;
       left =
           put_left core con _ _ (operand regs i.from % 256) _ _ c.after_put.ensures c.put.ensures.answer c.put.ensures.after
-          (c.low-byte-in-Put.ensures ∙ ap (λ v. v % 256) c.value-of-in-Put.ensures)
+          (c.low_byte-in-Put.ensures ∙ ap (λ v. v % 256) c.value_of-in-Put.ensures)
           ∙ same_left (g.M.Memory.marks c.args.memory.now) core con c.args.at.word _ _ i.is;
     }

@@ -10,7 +10,7 @@ returns c =
     let made = c.new-memory.result in
     let after = c.write.new.self in
     let loaned = c.write.ensures.loaned in
-    let back = c.work·1.given in
+    let back = c.work-1.given in
     let fixed : lent made.first.bytes.now ≡ lent c.args.rule.now =
     ap (λ m. lent m.bytes.now) c.new-memory.ensures.first ∙ c.new.ensures.cells
     in

@@ -14,10 +14,10 @@ returns-then-more-size c =
       size = refl;
     }
 
-pub returns-then-is-empty : goal.returns-then-is-empty
+pub returns-then-is_empty : goal.returns-then-is_empty
 unfolding size
-returns-then-is-empty c =
-    let none : c.args.more.now ≡ [] = nil_from_length c.args.more.now (eqb-true (length c.args.more.now) 0 (sym c.if-is-empty.ensures)) in
+returns-then-is_empty c =
+    let none : c.args.more.now ≡ [] = nil_from_length c.args.more.now (eqb-true (length c.args.more.now) 0 (sym c.if-is_empty.ensures)) in
     record {
       answer = sym (le-leb (length (items c.args.self.now) + length c.args.more.now) (length c.args.self.now.bytes.now) (omega arith));
       items = sym (ap (λ xs. items c.args.self.now ++ xs) none ∙ append-nil (items c.args.self.now));
@@ -27,9 +27,9 @@ returns-then-is-empty c =
 pub returns : goal.returns
 unfolding items size
 returns c =
-    let kept : length c.write-around.new.bytes ≡ length c.args.self.now.bytes.now = search rules in
+    let kept : length c.write_around.new.bytes ≡ length c.args.self.now.bytes.now = search rules in
     record {
       answer = sym (le-leb (length (items c.args.self.now) + length c.args.more.now) (length c.args.self.now.bytes.now) (omega arith));
-      items = ring-append c.args.self.now.bytes.now c.write-around.new.bytes c.args.more.now c.span-start.result.0 c.span-start.result.1 c.place-at.result (length c.args.self.now.bytes.now) refl kept (omega arith) (omega arith) c.place-at.ensures.value c.write-around.ensures ∙ ap (λ xs. xs ++ c.args.more.now) c.span-start.ensures.items;
+      items = ring-append c.args.self.now.bytes.now c.write_around.new.bytes c.args.more.now c.span-start.result.0 c.span-start.result.1 c.place-at.result (length c.args.self.now.bytes.now) refl kept (omega arith) (omega arith) c.place-at.ensures.value c.write_around.ensures ∙ ap (λ xs. xs ++ c.args.more.now) c.span-start.ensures.items;
       size = kept;
     }

@@ -10,7 +10,7 @@ returns c =
     let few : c.min-count.result ≤ c.span-start.result.1 = omega arith in
     let all : c.min-count.result - 0 ≡ c.min-count.result = omega arith in
     let part : length (take (c.min-count.result - 0) c.args.into.now) ≡ c.min-count.result = length-take (c.min-count.result - 0) c.args.into.now ∙ (omega arith) in
-    let first : c.read-around.new.into ≡ take c.min-count.result (turned c.args.self.now.bytes.now c.span-start.result.0) = c.read-around.ensures ∙ ap (λ n. take n (turned c.args.self.now.bytes.now c.span-start.result.0)) part in
+    let first : c.read_around.new.into ≡ take c.min-count.result (turned c.args.self.now.bytes.now c.span-start.result.0) = c.read_around.ensures ∙ ap (λ n. take n (turned c.args.self.now.bytes.now c.span-start.result.0)) part in
     let taken = take-take c.min-count.result c.span-start.result.1 (turned c.args.self.now.bytes.now c.span-start.result.0) few in
     record {
       answer = omega arith;

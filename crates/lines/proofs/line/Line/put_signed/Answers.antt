@@ -8,6 +8,6 @@ pub returns-then-n-lt0 : goal.returns-then-n-lt0
 returns-then-n-lt0 c =
     let n = c.args.n in
     let back = to_z-of_z w32 n c.ranges.n in
-    let size = same _ _ _ _ (ap decimal (c.unsigned-abs.ensures.value ∙ ap nat_abs back)) c.put-decimal.ensures in
+    let size = same _ _ _ _ (ap decimal (c.unsigned_abs.ensures.value ∙ ap nat_abs back)) c.put_decimal.ensures in
     let below = subst (λ (z : ℤ). lt_z z (pos 0) ≡ true) back c.if-n-lt0.true in
     same _ _ _ _ (sym (signed_below n below)) (then _ _ _ _ _ c.push.ensures size)

@@ -3,4 +3,4 @@ use Rattle.lines.proofs.Clips.{then}
 use Rattle.lines.proofs.line.Line.put_three.Goals as goal
 
 pub returns : goal.returns
-returns c = then _ _ _ _ _ c.put-two.ensures c.put-next.ensures
+returns c = then _ _ _ _ _ c.put_two.ensures c.put_next.ensures

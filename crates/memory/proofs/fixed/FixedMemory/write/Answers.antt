@@ -8,7 +8,7 @@ returns c =
     let cells = lent c.args.self.now.bytes.now in
     record {
       answer = c.writable.ensures;
-      after = sym (sets_never (length cells) c.args.at cells c.args.-byte);
+      after = sym (sets_never (length cells) c.args.at cells c.args._byte);
       kept = refl;
       loaned = refl;
     }
