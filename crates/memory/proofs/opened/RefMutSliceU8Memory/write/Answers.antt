@@ -14,7 +14,7 @@ returns-then-at-size c =
       answer = sym (says_within (length cells) c.args.at true within);
       after = put ∙ sym (sets_within (length cells) c.args.at cells c.args.byte within);
       kept = ap (λ n. replicate n true) (ap length put ∙ length-set cells c.args.at c.args.byte);
-      loaned = ap (λ l. (c.args.self.now.name ∷ [], l)) (left_out_set bytes c.args.at c.args.byte within);
+      loaned = ap (λ l. (c.args.self.now.ghost_name ∷ [], l)) (left_out_set bytes c.args.at c.args.byte within);
     }
 
 pub returns-else-at-size : goal.returns-else-at-size
