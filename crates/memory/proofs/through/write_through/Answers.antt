@@ -15,7 +15,7 @@ returns c =
     ap (λ m. lent m.bytes.now) c.new-memory.ensures.first ∙ c.new.ensures.cells
     in
     let work : made.second.now ≡ c.args.work.now = ap (λ m. m.now) c.new-memory.ensures.second in
-    let same = sym (ap (λ l. get_or l.0 0 0) loaned ∙ ap (λ m. m.name) c.new-memory.ensures.second) in
+    let same = sym (ap (λ l. get_or l.0 0 0) loaned ∙ ap (λ m. m.ghost_name) c.new-memory.ensures.second) in
     let held = back.1.1 same in
     let written =
     work_written (lent made.first.bytes.now) made.second.now (lent_bounded made.first.bytes.now) c.args.at c.args.byte
