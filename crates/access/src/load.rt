@@ -15,7 +15,7 @@ pub fn load<M: Memory>(
     width: Width,
     extension: Extension,
 ) -> Result<u64, AccessFault>
-    ensures { result ≡ loaded (cells memory.now) at width extension }
+    ensures { result ≡ loaded (M.cells memory.now) at width extension }
 {
     tell(
         Access::Load,
@@ -27,13 +27,13 @@ pub fn load<M: Memory>(
 
 // The word of an instruction, which lies in four cells.
 pub fn fetch<M: Memory>(memory: &M, at: u64) -> Result<u32, AccessFault>
-    ensures { result ≡ fetched (cells memory.now) at }
+    ensures { result ≡ fetched (M.cells memory.now) at }
 {
     tell(Access::Fetch, at, Width::Long, word(memory, at))
 }
 
 fn word<M: Memory>(memory: &M, at: u64) -> Result<u32, Cause>
-    ensures { result ≡ found (cells memory.now) at 4 }
+    ensures { result ≡ found (M.cells memory.now) at 4 }
 {
     let number = match side_by_side(memory, at, 4) {
         Some(number) => number,
@@ -48,7 +48,7 @@ fn of_width<M: Memory>(
     width: Width,
     extension: Extension,
 ) -> Result<u64, Cause>
-    ensures { result ≡ widely extension width (found (cells memory.now) at (bytes_of width)) }
+    ensures { result ≡ widely extension width (found (M.cells memory.now) at (bytes_of width)) }
 {
     let number = bare(memory, at, width)?;
     Ok(widen(extension, width, number))
@@ -56,7 +56,7 @@ fn of_width<M: Memory>(
 
 // The size is written out at each call, so that the loop over the cells is unrolled.
 fn bare<M: Memory>(memory: &M, at: u64, width: Width) -> Result<u64, Cause>
-    ensures value { result ≡ found (cells memory.now) at (bytes_of width) }
+    ensures value { result ≡ found (M.cells memory.now) at (bytes_of width) }
     ensures small { IfOk result (λ n. n < 2 ^ (8 * bytes_of width)) }
 {
     let near = match width {
@@ -74,7 +74,7 @@ fn bare<M: Memory>(memory: &M, at: u64, width: Width) -> Result<u64, Cause>
 // The number in cells that the memory has at hand side by side.
 fn side_by_side<M: Memory>(memory: &M, at: u64, size: u8) -> Option<u64>
     requires { Size size }
-    ensures { IfSome result (λ n. (Ok n ≡ found (cells memory.now) at size) × (n < 2 ^ (8 * size))) }
+    ensures { IfSome result (λ n. (Ok n ≡ found (M.cells memory.now) at size) × (n < 2 ^ (8 * size))) }
 {
     let near = memory.stretch(at);
     if at % size as u64 == 0 && size as usize <= near.len() {
@@ -87,7 +87,7 @@ fn side_by_side<M: Memory>(memory: &M, at: u64, size: u8) -> Option<u64>
 // The number in any cells, or what is wrong with them.
 fn one_by_one<M: Memory>(memory: &M, at: u64, size: u8) -> Result<u64, Cause>
     requires { Size size }
-    ensures value { result ≡ found (cells memory.now) at size }
+    ensures value { result ≡ found (M.cells memory.now) at size }
     ensures small { IfOk result (λ n. n < 2 ^ (8 * size)) }
 {
     if at % size as u64 != 0 {

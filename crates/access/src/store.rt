@@ -15,21 +15,21 @@ pub fn store<M: Memory>(
     width: Width,
     value: u64,
 ) -> Result<(), AccessFault>
-    ensures answer { result ≡ store_says (marks memory.old) at width }
-    ensures after { cells memory.new ≡ after_store (marks memory.old) (cells memory.old) at (bytes_of width) value }
-    ensures kept { marks memory.new ≡ marks memory.old }
-    ensures loaned { loans memory.new ≡ loans memory.old }
-    ensures laws { Stores (marks memory.old) (cells memory.old) (cells memory.new) at width value result }
+    ensures answer { result ≡ store_says (M.marks memory.old) at width }
+    ensures after { M.cells memory.new ≡ after_store (M.marks memory.old) (M.cells memory.old) at (bytes_of width) value }
+    ensures kept { M.marks memory.new ≡ M.marks memory.old }
+    ensures loaned { M.loans memory.new ≡ M.loans memory.old }
+    ensures laws { Stores (M.marks memory.old) (M.cells memory.old) (M.cells memory.new) at width value result }
 {
     tell(Access::Store, at, width, of_width(memory, at, width, value))
 }
 
 // The size is written out at each call, so that the loops over the cells are unrolled.
 fn of_width<M: Memory>(memory: &mut M, at: u64, width: Width, value: u64) -> Result<(), Cause>
-    ensures answer { result ≡ storable (marks memory.old) at (bytes_of width) }
-    ensures after { cells memory.new ≡ after_store (marks memory.old) (cells memory.old) at (bytes_of width) value }
-    ensures kept { marks memory.new ≡ marks memory.old }
-    ensures loaned { loans memory.new ≡ loans memory.old }
+    ensures answer { result ≡ storable (M.marks memory.old) at (bytes_of width) }
+    ensures after { M.cells memory.new ≡ after_store (M.marks memory.old) (M.cells memory.old) at (bytes_of width) value }
+    ensures kept { M.marks memory.new ≡ M.marks memory.old }
+    ensures loaned { M.loans memory.new ≡ M.loans memory.old }
 {
     match width {
         Width::Quad => of_size(memory, at, 8, value),
@@ -41,10 +41,10 @@ fn of_width<M: Memory>(memory: &mut M, at: u64, width: Width, value: u64) -> Res
 
 fn of_size<M: Memory>(memory: &mut M, at: u64, size: u8, value: u64) -> Result<(), Cause>
     requires { Size size }
-    ensures answer { result ≡ storable (marks memory.old) at size }
-    ensures after { cells memory.new ≡ after_store (marks memory.old) (cells memory.old) at size value }
-    ensures kept { marks memory.new ≡ marks memory.old }
-    ensures loaned { loans memory.new ≡ loans memory.old }
+    ensures answer { result ≡ storable (M.marks memory.old) at size }
+    ensures after { M.cells memory.new ≡ after_store (M.marks memory.old) (M.cells memory.old) at size value }
+    ensures kept { M.marks memory.new ≡ M.marks memory.old }
+    ensures loaned { M.loans memory.new ≡ M.loans memory.old }
 {
     ask(memory, at, size)?;
     put(memory, at, size, value);
@@ -54,7 +54,7 @@ fn of_size<M: Memory>(memory: &mut M, at: u64, size: u8, value: u64) -> Result<(
 // What a store would give. Outside is told before shut, so the last cell is looked for first.
 fn ask<M: Memory>(memory: &M, at: u64, size: u8) -> Result<(), Cause>
     requires { Size size }
-    ensures { result ≡ storable (marks memory.now) at size }
+    ensures { result ≡ storable (M.marks memory.now) at size }
 {
     if at % size as u64 != 0 {
         return Err(Cause::Misaligned);
@@ -71,11 +71,11 @@ fn ask<M: Memory>(memory: &M, at: u64, size: u8) -> Result<(), Cause>
 
 // Puts the low bytes of a value into cells that may be written, the lowest into the last.
 fn put<M: Memory>(memory: &mut M, at: u64, size: u8, value: u64)
-    requires room { at + size ≤ length (marks memory.old) }
-    requires open { all_open (marks memory.old) at size ≡ true }
-    ensures after { cells memory.new ≡ over (cells memory.old) at size value }
-    ensures kept { marks memory.new ≡ marks memory.old }
-    ensures loaned { loans memory.new ≡ loans memory.old }
+    requires room { at + size ≤ length (M.marks memory.old) }
+    requires open { all_open (M.marks memory.old) at size ≡ true }
+    ensures after { M.cells memory.new ≡ over (M.cells memory.old) at size value }
+    ensures kept { M.marks memory.new ≡ M.marks memory.old }
+    ensures loaned { M.loans memory.new ≡ M.loans memory.old }
 {
     let mut rest = value;
     let mut left = size;

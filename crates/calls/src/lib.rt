@@ -95,9 +95,9 @@ fn run_or_pass<M: Memory, C: Console>(
     console: &mut C,
     budget: u64,
 ) -> (Job, Answer)
-    ensures marks { marks memory.new ≡ marks memory.old }
-    ensures loans { loans memory.new ≡ loans memory.old }
-    ensures ran { RanOn (marks memory.old) budget job bank.old.regs (cells memory.old) (view console.old) result.0 bank.new.regs (cells memory.new) (view console.new) result.1 }
+    ensures marks { M.marks memory.new ≡ M.marks memory.old }
+    ensures loans { M.loans memory.new ≡ M.loans memory.old }
+    ensures ran { RanOn (M.marks memory.old) budget job bank.old.regs (M.cells memory.old) (C.view console.old) result.0 bank.new.regs (M.cells memory.new) (C.view console.new) result.1 }
 {
     let paused = match job {
         Job::Paused(paused) => paused,
@@ -131,7 +131,7 @@ fn make<M: Memory, C: Console>(
     filled: &mut usize,
 ) -> (Job, Answer)
     requires { filled.old ≤ length taken.old }
-    ensures { MadeSo (scene (marks memory.old) (loans memory.old) (cells memory.old) (view console.old) bank.old.regs taken.old) job filled.old (ask_of call.now) (scene (marks memory.new) (loans memory.new) (cells memory.new) (view console.new) bank.new.regs taken.new) result.0 result.1 filled.new }
+    ensures { MadeSo (scene (M.marks memory.old) (M.loans memory.old) (M.cells memory.old) (C.view console.old) bank.old.regs taken.old) job filled.old (ask_of call.now) (scene (M.marks memory.new) (M.loans memory.new) (M.cells memory.new) (C.view console.new) bank.new.regs taken.new) result.0 result.1 filled.new }
 {
     match call {
         Call::Feed(bytes) => (job, told(Answer::Fed, console.feed(bytes))),
@@ -158,7 +158,7 @@ pub fn perform<M: Memory, C: Console>(
     calls: &[Call<'_>],
     taken: &mut [u8],
 ) -> Result<Performed, AllocError>
-    ensures { PerformSo (scene (marks memory.old) (loans memory.old) (cells memory.old) (view console.old) bank.old.regs taken.old) (asks_of calls.now) (scene (marks memory.new) (loans memory.new) (cells memory.new) (view console.new) bank.new.regs taken.new) result }
+    ensures { PerformSo (scene (M.marks memory.old) (M.loans memory.old) (M.cells memory.old) (C.view console.old) bank.old.regs taken.old) (asks_of calls.now) (scene (M.marks memory.new) (M.loans memory.new) (M.cells memory.new) (C.view console.new) bank.new.regs taken.new) result }
 {
     let mut answers = Vec::with_capacity(heap, calls.len())?;
     let mut job = Job::Paused(Paused::new(bank));

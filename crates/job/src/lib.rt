@@ -167,9 +167,9 @@ impl Paused {
         console: &mut C,
         budget: u64,
     ) -> Result<Ran, Refused>
-        ensures marks { marks memory.new ≡ marks memory.old }
-        ensures loans { loans memory.new ≡ loans memory.old }
-        ensures ran { RunSo (marks memory.old) self (state_of_paused self bank.old.regs (cells memory.old) (view console.old)) budget bank.new.regs (cells memory.new) (view console.new) result }
+        ensures marks { M.marks memory.new ≡ M.marks memory.old }
+        ensures loans { M.loans memory.new ≡ M.loans memory.old }
+        ensures ran { RunSo (M.marks memory.old) self (state_of_paused self bank.old.regs (M.cells memory.old) (C.view console.old)) budget bank.new.regs (M.cells memory.new) (C.view console.new) result }
     {
         if budget > MOST_BUDGET || self.at.count > MOST_COUNT - budget {
             return Err(Refused {

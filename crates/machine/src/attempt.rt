@@ -43,9 +43,9 @@ pub fn attempt<M: Memory, C: Console>(
     place: u64,
     flags: Flags,
 ) -> Tried
-    ensures marks { marks memory.new ≡ marks memory.old }
-    ensures loans { loans memory.new ≡ loans memory.old }
-    ensures tried { Attempted (marks memory.old) (living (core_of bank.old.regs flags place (cells memory.old)) (view console.old)) bank.new.regs (cells memory.new) (view console.new) result }
+    ensures marks { M.marks memory.new ≡ M.marks memory.old }
+    ensures loans { M.loans memory.new ≡ M.loans memory.old }
+    ensures tried { Attempted (M.marks memory.old) (living (core_of bank.old.regs flags place (M.cells memory.old)) (C.view console.old)) bank.new.regs (M.cells memory.new) (C.view console.new) result }
 {
     match fetch(memory, place) {
         Ok(word) => match instruction_of(word) {

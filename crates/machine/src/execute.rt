@@ -1,6 +1,6 @@
 // One instruction.
 ghost use Rattle.std.specs.Prelude.{◌≡◌, ◌%◌, pos, ◌+ℤ◌, ◌*ℤ◌, if◌then◌else◌};
-ghost use Rattle.arith.specs.Whole.{u, word as word-for, sum};
+ghost use Rattle.arith.specs.Whole.{u, word as word_for, sum};
 ghost use Rattle.isa.specs.Distances.{words_of};
 ghost use Rattle.machine.specs.declared.attempt.Tried.{Tried};
 ghost use Rattle.machine.specs.Effects.{taken, effect};
@@ -74,7 +74,7 @@ impl Site {
     }
 
     fn jump(self, when: Condition, distance: Distance) -> Tried
-        ensures { result ≡ Tried.Went (if taken when self.flags then word-for (u self.place +ℤ words_of distance *ℤ pos 4) else sum self.place 4) self.flags }
+        ensures { result ≡ Tried.Went (if taken when self.flags then word_for (u self.place +ℤ words_of distance *ℤ pos 4) else sum self.place 4) self.flags }
     {
         if is_taken(when, self.flags) {
             Tried::Went(target_of(self.place, distance), self.flags)
@@ -128,9 +128,9 @@ pub(crate) fn execute<M: Memory, C: Console>(
     at: Site,
     instruction: Instruction,
 ) -> Tried
-    ensures marks { marks memory.new ≡ marks memory.old }
-    ensures loans { loans memory.new ≡ loans memory.old }
-    ensures left { ◌≡◌ {A = Left} (record { regs = bank.new.regs; cells = cells memory.new; con = view console.new; tried = result }) (leaves (effect (marks memory.old) (core_of bank.old.regs at.flags at.place (cells memory.old)) at.word instruction) (core_of bank.old.regs at.flags at.place (cells memory.old)) (view console.old)) }
+    ensures marks { M.marks memory.new ≡ M.marks memory.old }
+    ensures loans { M.loans memory.new ≡ M.loans memory.old }
+    ensures left { ◌≡◌ {A = Left} (record { regs = bank.new.regs; cells = M.cells memory.new; con = C.view console.new; tried = result }) (leaves (effect (M.marks memory.old) (core_of bank.old.regs at.flags at.place (M.cells memory.old)) at.word instruction) (core_of bank.old.regs at.flags at.place (M.cells memory.old)) (C.view console.old)) }
 {
     let flags = at.flags;
     match instruction {

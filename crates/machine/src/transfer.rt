@@ -25,7 +25,7 @@ pub(crate) fn load_into<M: Memory>(
     address: Address,
     to: u8,
 ) -> Result<Flags, Cause>
-    ensures { (bank.new.regs, result) ≡ split bank.old.regs (loads bank.old.regs flags to (loaded (cells memory.now) (address_in bank.old.regs address) (width_of kind) (extension_of kind))) }
+    ensures { (bank.new.regs, result) ≡ split bank.old.regs (loads bank.old.regs flags to (loaded (M.cells memory.now) (address_in bank.old.regs address) (width_of kind) (extension_of kind))) }
 {
     let at = address_of(bank, address);
     let value = load(memory, at, width(kind), extension(kind))?;
@@ -41,10 +41,10 @@ pub(crate) fn store_from<M: Memory>(
     from: u8,
     address: Address,
 ) -> Result<Flags, Cause>
-    ensures answer { result ≡ lifted flags (store_says (marks memory.old) (address_in bank.now.regs address) size) }
-    ensures after { cells memory.new ≡ after_store (marks memory.old) (cells memory.old) (address_in bank.now.regs address) (bytes_of size) (reg bank.now.regs from) }
-    ensures marks { marks memory.new ≡ marks memory.old }
-    ensures loans { loans memory.new ≡ loans memory.old }
+    ensures answer { result ≡ lifted flags (store_says (M.marks memory.old) (address_in bank.now.regs address) size) }
+    ensures after { M.cells memory.new ≡ after_store (M.marks memory.old) (M.cells memory.old) (address_in bank.now.regs address) (bytes_of size) (reg bank.now.regs from) }
+    ensures marks { M.marks memory.new ≡ M.marks memory.old }
+    ensures loans { M.loans memory.new ≡ M.loans memory.old }
 {
     store(memory, address_of(bank, address), size, bank.read(from))?;
     Ok(flags)

@@ -5,14 +5,14 @@ use Rattle.std.proofs.lemmas.List.{take_all}
 use Rattle.std.specs.Int.Digits.{number_from_digits}
 use Rattle.access.proofs.load.number_in.Goals as goal
 
-pub overflow-mul-sum : goal.overflow-mul-sum
-overflow-mul-sum c =
+pub overflow_mul-sum : goal.overflow_mul-sum
+overflow_mul-sum c =
     let i = c.loop-byte.byte-index in
     let small : i + 1 ≤ 8 = omega arith in
     record { fits = omega (arith, more c.loop-byte.sum i 0 c.loop-byte.invariant.1 (omega arith), fits (i + 1) small) }
 
-pub overflow-add-sum : goal.overflow-add-sum
-overflow-add-sum c =
+pub overflow_add-sum : goal.overflow_add-sum
+overflow_add-sum c =
     let i = c.loop-byte.byte-index in
     let small : i + 1 ≤ 8 = omega arith in
     let byte : get_or c.args.bytes.now i 0 < 256 = search rules in

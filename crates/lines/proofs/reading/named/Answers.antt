@@ -9,14 +9,14 @@ loop-base-init c = ap (named_in c.args.text.now) c.all_bases-all.ensures
 
 pub returns-then-has_name : goal.returns-then-has_name
 returns-then-has_name c =
-    sym (found c.args.text.now c.all_bases-all.result.now c.loop-base.base_index _ c.loop-base-test.true (sym c.if-has_name.ensures))
+    sym (found c.args.text.now c.all_bases-all.result.now c.loop-base.base-index _ c.loop-base-test.true (sym c.if-has_name.ensures))
     ∙ c.loop-base.invariant
 
 pub loop-base-preserved : goal.loop-base-preserved
 loop-base-preserved c =
-    passed c.args.text.now c.all_bases-all.result.now c.loop-base.base_index _ c.loop-base-test.true (sym c.if-has_name.ensures)
+    passed c.args.text.now c.all_bases-all.result.now c.loop-base.base-index _ c.loop-base-test.true (sym c.if-has_name.ensures)
     ∙ c.loop-base.invariant
 
 pub returns : goal.returns
 returns c =
-    sym (at_drop_all (named_in c.args.text.now) c.all_bases-all.result.now c.loop-base.base_index (omega arith)) ∙ c.loop-base.invariant
+    sym (at_drop_all (named_in c.args.text.now) c.all_bases-all.result.now c.loop-base.base-index (omega arith)) ∙ c.loop-base.invariant
