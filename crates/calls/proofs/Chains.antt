@@ -10,7 +10,7 @@ use Rattle.calls.specs.declared.Job.{Job}
 use Rattle.calls.specs.declared.Job.TheVariants as job
 use Rattle.calls.specs.declared.Answer.{Answer}
 use Rattle.calls.specs.declared.Call.{Call}
-use Rattle.job.specs.Jobs.{first_job, no_flags}
+use Rattle.job.specs.Jobs.{first_job}
 use Rattle.job.specs.declared.Paused.{Paused}
 use Rattle.memory.specs.Slices.{Loans}
 use Rattle.calls.proofs.Mirror.{mirrors_all, like_all}

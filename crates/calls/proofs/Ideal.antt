@@ -1,10 +1,10 @@
 -- Laws of the ideal machine: an open input can grow, and what it comes to is settled.
 -- None of these opens `try`: an act is taken by cases as it is.
-use Rattle.std.proofs.Common.{◌≡◌, ℕ, suc, ◌+◌, ◌<◌, ◌≤◌, Bool, true, false, ◌⊎◌, List, [], ◌∷◌, ◌++◌, length, sym, refl, ap, ◌∙◌, subst, inl, inr, append_assoc, append-nil, arith, length-append}
-use Rattle.machine.specs.Cores.{Core, Heard, found, no_more, Act, moves, gets, puts, halts, traps, faults}
+use Rattle.std.proofs.Common.{◌≡◌, ℕ, suc, ◌+◌, ◌<◌, Bool, true, false, ◌⊎◌, List, [], ◌∷◌, ◌++◌, length, sym, refl, ap, ◌∙◌, subst, inl, inr, append-nil, arith, length-append}
+use Rattle.machine.specs.Cores.{Core, Heard, Act, moves, gets, puts, halts, traps, faults}
 use Rattle.machine.specs.Tries.{try}
 use Rattle.machine.specs.Steps.{Life, live, over}
-use Rattle.calls.specs.Ulms.{Ulm, Turn, turns, still, breaks, done, ulm_at, turn_get, turn_of, turn_if, turn, Goes, at_rest, on, StandsAt, first_ulm}
+use Rattle.calls.specs.Ulms.{Ulm, Turn, turns, breaks, done, ulm_at, turn_get, turn_of, turn_if, turn, Goes, at_rest, on, StandsAt, first_ulm}
 use Rattle.calls.specs.Laws.{Begins, Agree}
 use Rattle.machine.specs.declared.fault.Fault as fault
 use Rattle.machine.specs.declared.ending.Ending.{Ending}

@@ -1,17 +1,15 @@
 -- One call of a list, from what the console and the run promise.
-use Rattle.std.proofs.Common.{◌≡◌, ℕ, suc, ◌+◌, ◌-◌, ◌≤◌, min, Bool, List, [], ◌∷◌, ◌++◌, length, take, drop, Result, sym, refl, ap, ◌∙◌, subst, append_assoc, arith, length-append, length-drop, take-append-drop, length-take, length-take-le, take_at, drop_at}
+use Rattle.std.proofs.Common.{◌≡◌, ℕ, ◌+◌, ◌-◌, ◌≤◌, min, Bool, List, ◌++◌, length, take, drop, sym, refl, ap, ◌∙◌, subst, append_assoc, arith, length-append, length-drop, take-append-drop, length-take, length-take-le, take_at, drop_at}
 use borrow.Rule.Slice.PartMut.{put_mid}
-use Rattle.console.specs.Streams.{Con, feed_says, after_feed, close_says, after_close, take_says, after_take}
-use Rattle.machine.specs.Steps.{State, Life, live, over, living, stopped_with}
-use Rattle.calls.specs.Calls.{Ask, feed, close, run, taking, ask_of, Reply, fed, shut, ran, took, refused, passed, reply_of, Stand, after_run, Called, RunCalled, made, turned_down, passed_over, ended_by, after_taking, taken_now}
+use Rattle.console.specs.Streams.{Con, take_says, after_take}
+use Rattle.machine.specs.Steps.{live, over}
+use Rattle.calls.specs.Calls.{ask_of, ran, took, refused, passed, reply_of, after_run, Called, RunCalled, made, turned_down, passed_over, ended_by, after_taking, taken_now}
 use Rattle.job.specs.Refusals.{number}
 use Rattle.job.specs.Runs.{Runs, StopsShort}
-use Rattle.job.specs.Jobs.{Accepted, TurnedDown, state_of_paused, state_of, why_of, count_of, stop_of, halted_by}
+use Rattle.job.specs.Jobs.{Accepted, TurnedDown, state_of_paused, state_of, why_of, count_of, stop_of}
 use Rattle.job.specs.declared.Ran.{Ran}
 use Rattle.job.specs.declared.Refused.{Refused}
 use Rattle.memory.specs.Slices.{Loans}
-use Rattle.console.specs.Refusals.{numbered}
-use Rattle.console.specs.declared.Refusal.{Refusal}
 use Rattle.calls.specs.Posts.{stand_of, place_of, flags_of, steps_of, ended_of, halted_of, Scene, scene, stand_in, RanOn, MadeSo}
 use Rattle.machine.specs.Tryings.{core_of}
 use Rattle.machine.specs.declared.ending.Ending.{Ending}

@@ -1,20 +1,20 @@
 -- A job's list of calls against the ideal machine.
 -- None of these opens `try`: an act is taken by cases as it is.
-use Rattle.std.proofs.Common.{◌≡◌, ℕ, suc, ◌+◌, ◌-◌, ◌<◌, ◌≤◌, Bool, true, false, cond, ◌⊎◌, List, [], ◌∷◌, ◌++◌, length, take, drop, Ok, Err, Result, sym, refl, ap, ◌∙◌, subst, inl, inr, append_assoc, append-nil, arith, take-append-drop}
-use Rattle.console.specs.Streams.{Con, with_waiting, with_held, has_room, fits_in, feed_says, after_feed, close_says, after_close, after_take}
-use Rattle.machine.specs.Cores.{Core, Heard, found, no_more, Act, moves, gets, puts, halts, traps, faults}
+use Rattle.std.proofs.Common.{◌≡◌, ℕ, ◌+◌, Bool, true, false, cond, List, [], ◌∷◌, ◌++◌, take, drop, Ok, Err, Result, sym, refl, ap, ◌∙◌, subst, append_assoc, append-nil, arith, take-append-drop}
+use Rattle.console.specs.Streams.{Con, with_waiting, with_held, has_room, fits_in, feed_says, after_feed, close_says, after_close}
+use Rattle.machine.specs.Cores.{Core, Heard, no_more, Act, moves, gets, puts, halts, traps, faults}
 use Rattle.machine.specs.Tries.{try}
-use Rattle.machine.specs.Steps.{Life, live, over, State, Next, goes, waits, full, fails, stands, living, stopped_with, next_get, next_of, next_if, next}
+use Rattle.machine.specs.Steps.{Life, live, over, State, goes, full, living, next_get, next_if, next}
 use Rattle.job.specs.Runs.{Reaches, here, step, FaultsWith, EndedWith, Stopped, Runs}
-use Rattle.calls.specs.Ulms.{Ulm, Turn, turns, still, breaks, done, ulm_at, turn_get, turn_of, turn_if, turn, Goes, at_rest, on, StandsAt, first_core, first_ulm}
-use Rattle.calls.specs.Calls.{Ask, feed, close, run, taking, Reply, fed, shut, ran, took, refused, passed, replied, Stand, with_con, ended_by, after_run, taken_now, after_taking, RunCalled, passed_over, turned_down, made, Called, Listed, none, then, first_stand, if_fed, fed_by, accepted, steps_in, all_steps}
-use Rattle.calls.specs.Laws.{input_of, output_of, Mirrors, Agree, SameFive, Alike, LikeAnyOther}
+use Rattle.calls.specs.Ulms.{Ulm, turns, breaks, ulm_at, turn_get, turn_of, turn_if, turn, Goes, at_rest, on, StandsAt, first_ulm}
+use Rattle.calls.specs.Calls.{Ask, feed, close, run, taking, Reply, fed, shut, replied, Stand, with_con, ended_by, after_run, taken_now, after_taking, RunCalled, passed_over, turned_down, made, Called, Listed, none, then, first_stand, if_fed, fed_by, accepted, steps_in, all_steps}
+use Rattle.calls.specs.Laws.{input_of, Mirrors, LikeAnyOther}
 use Rattle.machine.specs.declared.fault.Fault as fault
 use Rattle.machine.specs.declared.ending.Ending.{Ending}
 use Rattle.machine.specs.declared.ending.Ending.TheVariants.{Halt, Trap, Fault}
 use Rattle.job.specs.declared.Stop.{Stop}
 use Rattle.job.specs.declared.Stop.TheVariants.{Spent, Waiting, Full, Finished}
-use Rattle.calls.proofs.Ideal.{longer, more_goes, join_goes, more_stands, settled, ends_once, Extends, agreeing, extended}
+use Rattle.calls.proofs.Ideal.{more_goes, join_goes, more_stands, settled, ends_once, agreeing, extended}
 
 -- the ideal machine at a state, with what it has put out
 abbrev ideal_of : State → List ℕ → Ulm

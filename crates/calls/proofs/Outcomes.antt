@@ -1,8 +1,8 @@
 -- The runs of a list keep to their budgets, and a list has one outcome.
-use Rattle.std.proofs.Common.{◌≡◌, ℕ, ◌<◌, ◌≤◌, Bool, List, [], ◌∷◌, Ok, Err, Result, sym, refl, ap, ◌∙◌, subst, arith}
+use Rattle.std.proofs.Common.{◌≡◌, ℕ, Bool, List, ◌∷◌, Ok, Err, Result, sym, refl, ap, ◌∙◌, subst, arith}
 use Rattle.machine.specs.Steps.{Life, live, over, State}
 use Rattle.machine.specs.declared.ending.Ending.{Ending}
-use Rattle.job.specs.Runs.{Stopped, Runs}
+use Rattle.job.specs.Runs.{Stopped}
 use Rattle.job.specs.declared.Stop.{Stop}
 use Rattle.job.specs.declared.Stop.TheVariants.{Spent, Waiting, Full, Finished}
 use Rattle.job.proofs.Outcomes.{only_outcome}

@@ -1,6 +1,6 @@
 -- Lists of calls: the chain of what each call promises, over meanings only.
 -- Assumes nothing.
-use Rattle.std.specs.Prelude.{◌≡◌, ℕ, ◌+◌, ◌-◌, ◌<◌, ◌≤◌, min, Bool, List, [], ◌∷◌, ◌++◌, length, take, drop, Ok, Err, Result}
+use Rattle.std.specs.Prelude.{◌≡◌, ℕ, ◌+◌, ◌-◌, min, Bool, List, [], ◌∷◌, ◌++◌, take, Ok, Err, Result}
 use Rattle.console.specs.Streams.{Con, feed_says, after_feed, close_says, after_close, take_says, after_take}
 use Rattle.machine.specs.Steps.{Life, live, over, State, living}
 use Rattle.machine.specs.declared.ending.Ending.{Ending}

@@ -1,8 +1,8 @@
 -- What follows for every list of calls, in the subject's words.
 -- Assumes nothing.
-use Rattle.std.specs.Prelude.{◌≡◌, ℕ, ◌<◌, ◌≤◌, Bool, true, false, ◌⊎◌, List, [], ◌∷◌, ◌++◌, length, ◌≢◌}
+use Rattle.std.specs.Prelude.{◌≡◌, ℕ, ◌<◌, ◌≤◌, Bool, false, ◌⊎◌, List, [], ◌∷◌, ◌++◌, length, ◌≢◌}
 use Rattle.console.specs.Streams.{Con}
-use Rattle.machine.specs.Steps.{Life, live, over, State}
+use Rattle.machine.specs.Steps.{over}
 use Rattle.calls.specs.Ulms.{Ulm, Goes, StandsAt, first_ulm}
 use Rattle.calls.specs.Calls.{Ask, run, Reply, ran, Stand, Listed, first_stand, accepted, all_steps}
 use Rattle.machine.specs.declared.ending.Ending.{Ending}

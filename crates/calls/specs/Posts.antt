@@ -1,8 +1,8 @@
 -- The contract of a list of calls, over meanings and results.
 -- Assumes nothing.
-use Rattle.std.specs.Prelude.{◌≡◌, ℕ, ◌+◌, ◌-◌, ◌<◌, ◌≤◌, Bool, true, false, List, [], ◌∷◌, ◌++◌, length, take, drop, Some, None, Ok, Err, vec_items, Option, Result}
+use Rattle.std.specs.Prelude.{◌≡◌, ℕ, ◌-◌, ◌≤◌, Bool, List, length, take, drop, Some, None, Ok, Err, vec_items, Option, Result}
 use Rattle.console.specs.Streams.{Con}
-use Rattle.machine.specs.Steps.{Life, live, over, State}
+use Rattle.machine.specs.Steps.{Life, live, over}
 use Rattle.job.specs.Jobs.{halted_by}
 use Rattle.job.specs.declared.Numbers.{Numbers}
 use Rattle.arith.specs.declared.flags.Flags.{Flags}

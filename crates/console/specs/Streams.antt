@@ -1,6 +1,6 @@
 -- What a console means, and what each call on one answers and leaves.
 -- Assumes nothing.
-use Rattle.std.specs.Prelude.{ℕ, ◌+◌, min, Bool, true, false, cond, List, [], ◌∷◌, ◌++◌, length, take, drop, Ok, Err, Result, nat_le, nat_lt}
+use Rattle.std.specs.Prelude.{ℕ, ◌+◌, min, Bool, true, cond, List, [], ◌∷◌, ◌++◌, length, drop, Ok, Err, Result, nat_le, nat_lt}
 use Rattle.console.specs.declared.Full.{Full}
 use Rattle.console.specs.declared.ReadAnswer.{ReadAnswer}
 use Rattle.console.specs.declared.ReadAnswer.TheVariants.{Byte, End, NotYet}

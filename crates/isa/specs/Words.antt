@@ -1,5 +1,5 @@
 -- Words of four bytes, highest first, and the instructions that they stand for.
-use Rattle.std.specs.Prelude.{◌≡◌, ℕ, ◌+◌, ◌*◌, cond, List, [], ◌∷◌, Some, None, Option, MatchOption, ◌==◌, ◌≢◌, slice_index}
+use Rattle.std.specs.Prelude.{◌≡◌, ℕ, ◌+◌, ◌*◌, cond, List, Some, None, Option, MatchOption, ◌==◌, ◌≢◌, slice_index}
 use Rattle.std.specs.Int.{w8, w16}
 use Rattle.std.proofs.Common.{to_z}
 use Rattle.isa.specs.declared.opcode.Opcode.{Opcode}

@@ -1,9 +1,8 @@
 -- A run has one outcome, and stops short exactly for its three reasons.
 -- None of these opens `try`: what a try asks for is taken as it is.
-use Rattle.std.proofs.Common.{◌≡◌, ℕ, suc, ◌+◌, ◌<◌, ◌≤◌, Bool, true, false, cond, ltb, ◌⊎◌, List, [], ◌∷◌, ◌++◌, length, sym, refl, ap, ◌∙◌, subst, inl, inr, arith}
+use Rattle.std.proofs.Common.{◌≡◌, ℕ, ◌+◌, ◌<◌, ◌≤◌, Bool, true, false, cond, ltb, List, [], ◌∷◌, ◌++◌, length, sym, refl, ap, ◌∙◌, subst, inl, inr, arith}
 use Rattle.std.proofs.lemmas.Bool.{lt-ltb, le-ltb, cases_order}
-use Rattle.console.specs.Streams.{Con, has_room, with_held}
-use Rattle.machine.specs.Cores.{Core, Heard, Act, gets, puts, faults}
+use Rattle.console.specs.Streams.{Con, with_held}
 use Rattle.machine.specs.Tries.{try}
 use Rattle.machine.specs.Steps.{Life, live, over, State, Next, goes, waits, full, fails, stands, living, next_get, next_of, next_if, next}
 use Rattle.machine.specs.declared.fault.Fault as fault
@@ -11,11 +10,10 @@ use Rattle.machine.specs.declared.ending.Ending.{Ending}
 use Rattle.machine.specs.declared.ending.Ending.TheVariants.{Halt, Trap, Fault}
 use Rattle.job.specs.declared.Stop.{Stop}
 use Rattle.job.specs.declared.Stop.TheVariants.{Spent, Waiting, Full, Finished}
-use Rattle.job.specs.Runs.{Reaches, here, step, LacksByte, LacksSpace, FaultsWith, EndedWith, EndedWithin, Stuck, Stopped, Runs, StopsShort, OnlyOutcome}
+use Rattle.job.specs.Runs.{Reaches, here, step, LacksByte, LacksSpace, FaultsWith, Stuck, Stopped, Runs, StopsShort, OnlyOutcome}
 use Rattle.job.specs.Jobs.{Allowed, Accepted, state_of, why_of, count_of}
 use Rattle.job.specs.declared.Paused.{Paused}
 use Rattle.job.specs.declared.Outcome.{Outcome}
-use Rattle.job.specs.declared.Ran.{Ran}
 
 same_goes : (x : Next) (m w : State) → x ≡ goes m → x ≡ goes w → w ≡ m
 same_goes x m w d e = cc

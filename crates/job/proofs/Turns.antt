@@ -6,7 +6,7 @@ use Rattle.machine.specs.declared.fault.Fault as fault
 use Rattle.machine.specs.declared.ending.Ending.TheVariants.{Fault}
 use Rattle.job.specs.declared.Stop.TheVariants as stop
 use Rattle.console.specs.Streams.{Con, has_room, with_held}
-use Rattle.machine.specs.Steps.{Life, live, over, State, Next, goes, waits, full, fails, living, stopped_with, next_get, next_if, next}
+use Rattle.machine.specs.Steps.{Life, live, over, State, goes, waits, full, fails, living, stopped_with, next_get, next_if, next}
 use Rattle.job.specs.Runs.{Reaches, here, step, LacksByte, LacksSpace, FaultsWith, Runs}
 use Rattle.machine.specs.Tryings.{core_of, Kept}
 use Rattle.machine.specs.declared.ending.Ending.{Ending}

@@ -9,13 +9,11 @@ use Rattle.machine.specs.declared.ending.Ending.{Ending}
 use Rattle.machine.specs.declared.ending.Ending.TheVariants.{Halt, Trap, Fault}
 use Rattle.job.specs.Refusals.{number}
 use Rattle.job.specs.Runs.{Runs, StopsShort, OnlyOutcome}
-use Rattle.job.specs.declared.Numbers.{Numbers}
 use Rattle.job.specs.declared.Stop.{Stop}
 use Rattle.job.specs.declared.Stop.TheVariants as stop
 use Rattle.job.specs.declared.Reason.{Reason}
 use Rattle.job.specs.declared.Reason.TheVariants as reason
 use Rattle.job.specs.declared.Paused.{Paused}
-use Rattle.job.specs.declared.Ended.{Ended}
 use Rattle.job.specs.declared.Outcome.{Outcome}
 use Rattle.job.specs.declared.Outcome.TheVariants as outcome
 use Rattle.job.specs.declared.Ran.{Ran}

@@ -1,9 +1,8 @@
 -- The line of an instruction is taken for its word.
-use Rattle.std.proofs.Common.{◌≡◌, ℕ, suc, ◌+◌, ◌-◌, ◌*◌, ◌/◌, ◌%◌, ◌^◌, ◌<◌, ◌≤◌, Bool, true, false, cond, eqb, List, [], ◌∷◌, ◌++◌, length, get_or, ℤ, pos, negsuc, ◌+ℤ◌, ◌*ℤ◌, Some, None, decimal, Option, sym, refl, ap, ◌∙◌, subst, ⊎_elim, arith, w8, w16, w32, to_z, of_z}
+use Rattle.std.proofs.Common.{◌≡◌, ℕ, ◌+◌, ◌*◌, ◌/◌, ◌%◌, ◌^◌, ◌<◌, false, cond, eqb, List, [], ◌∷◌, get_or, ℤ, pos, negsuc, ◌*ℤ◌, Some, None, decimal, Option, sym, refl, ap, ◌∙◌, subst, ⊎_elim, arith, w8, w16, w32, to_z, of_z}
 use lib.Signed.{mag}
 use Rattle.std.specs.Fmt.{signed_decimal}
 use Rattle.std.proofs.lemmas.Fmt.{decimal_digit}
-use Rattle.std.proofs.lemmas.Int.{ints}
 use Rattle.std.proofs.lemmas.Bool.{cases_lt, cond_both, eqb-true}
 use Rattle.std.proofs.lemmas.Bool.Decides.{nat_tests}
 use Rattle.arith.specs.declared.width.Width.{Width}
@@ -13,20 +12,17 @@ use Rattle.isa.specs.declared.opcode.Reach.{Reach}
 use Rattle.isa.specs.declared.opcode.Scale.{Scale}
 use Rattle.isa.specs.declared.opcode.Source.{Source}
 use Rattle.isa.specs.declared.opcode.Operation.{Operation}
-use Rattle.isa.specs.declared.opcode.Condition.{Condition}
 use Rattle.isa.specs.declared.instruction.Instruction.{Instruction}
 use Rattle.isa.specs.Distances.{words_of}
 use Rattle.isa.specs.Opcodes.{code_of}
 use Rattle.isa.specs.Instructions.{opcode, fields, encoded, Formed}
 use Rattle.isa.specs.Words.{distance_of, if_zero, with_fields, decoded, Decodes}
 use Rattle.isa.proofs.Trips.{from_fields, fields_fit, decoded_encoded, decodes}
-use Rattle.lines.specs.declared.argument.Argument.{Argument}
-use Rattle.lines.specs.declared.argument.Argument.TheVariants.{Register, Number, Scaled, Displaced}
 use Rattle.lines.specs.declared.argument.Arguments.TheVariants.{One}
 use Rattle.lines.specs.Names.{name_of}
-use Rattle.lines.specs.Lines.{immediate, plain, address, arguments, register, factor, line_with, line_of, Reads, IsWord, HasLine, LinesDiffer}
-use Rattle.lines.specs.Pieces.{starts, pieces, register_value, number_value}
-use Rattle.lines.specs.Reading.{bases, named_in, scale_read, reach_read, source_read, chosen, load_fields, store_fields, jump_fields, one_field, fields_read, word_read, taken_for}
+use Rattle.lines.specs.Lines.{immediate, plain, arguments, register, factor, line_with, line_of, Reads, IsWord, HasLine, LinesDiffer}
+use Rattle.lines.specs.Pieces.{starts, register_value, number_value}
+use Rattle.lines.specs.Reading.{bases, named_in, scale_read, reach_read, chosen, load_fields, store_fields, one_field, fields_read, word_read, taken_for}
 use Rattle.lines.proofs.Lengths.{jump_ahead, jump_back, small}
 use Rattle.lines.proofs.Numbers.{no_sign, read_register, read_number}
 use Rattle.lines.proofs.Parts.{all_parts, pieces_of_line}

@@ -1,7 +1,6 @@
 -- A line has at most 64 bytes.
-use Rattle.std.proofs.Common.{◌≡◌, ℕ, ◌+◌, ◌-◌, ◌*◌, ◌^◌, ◌<◌, ◌≤◌, Bool, true, false, leb, List, [], ◌∷◌, ◌++◌, length, ℤ, pos, negsuc, ◌+ℤ◌, ◌*ℤ◌, codes, decimal, sym, refl, ap, ◌∙◌, subst, ⊎_elim, arith, length-append, w8, w16, to_z}
+use Rattle.std.proofs.Common.{◌≡◌, ℕ, ◌+◌, ◌-◌, ◌*◌, ◌^◌, ◌<◌, ◌≤◌, true, leb, length, ℤ, pos, negsuc, ◌+ℤ◌, ◌*ℤ◌, decimal, sym, refl, ap, ◌∙◌, subst, ⊎_elim, arith, length-append, w8, w16, to_z}
 use lib.Signed.{mag}
-use Rattle.std.specs.Fmt.{signed_decimal}
 use Rattle.std.proofs.lemmas.Fmt.{length-decimal-le, length_signed_le}
 use Rattle.std.proofs.lemmas.Int.{ints}
 use Rattle.std.proofs.lemmas.Bool.{leb-true, cases_lt}
@@ -20,7 +19,7 @@ use Rattle.lines.specs.declared.argument.Argument.TheVariants.{Register, Number,
 use Rattle.lines.specs.declared.argument.Arguments.{Arguments}
 use Rattle.lines.specs.declared.argument.Arguments.TheVariants.{Zero, One, Two, Three}
 use Rattle.lines.specs.Names.{name_of}
-use Rattle.lines.specs.Lines.{immediate, plain, address, arguments, register, factor, written, spaced, trailing, line_with}
+use Rattle.lines.specs.Lines.{immediate, plain, address, arguments, register, factor, written, trailing, line_with}
 
 -- the names have at most 6 bytes: a test at each opcode
 short_name : (o : Opcode) → leb (length (name_of o)) 6 ≡ true

@@ -1,5 +1,5 @@
 -- The pieces of a line, operand by operand.
-use Rattle.std.proofs.Common.{◌≡◌, ℕ, suc, ◌+◌, ◌^◌, ◌<◌, ◌≤◌, Bool, true, false, cond, not, ◌&&◌, List, [], ◌∷◌, ◌++◌, length, get_or, ℤ, pos, negsuc, codes, decimal, sym, refl, ap, ◌∙◌, append_assoc, append-nil, arith}
+use Rattle.std.proofs.Common.{◌≡◌, ℕ, suc, ◌^◌, ◌<◌, Bool, true, false, not, ◌&&◌, List, [], ◌∷◌, ◌++◌, ℤ, pos, negsuc, codes, decimal, sym, refl, ap, ◌∙◌, append_assoc, append-nil, arith}
 use lib.Signed.{mag}
 use Rattle.std.specs.Fmt.{signed_decimal}
 use Rattle.std.specs.List.{AllByRecursion as All}
@@ -17,7 +17,7 @@ use Rattle.lines.specs.declared.argument.Argument.TheVariants.{Register, Number,
 use Rattle.lines.specs.declared.argument.Arguments.{Arguments}
 use Rattle.lines.specs.declared.argument.Arguments.TheVariants.{Zero, One, Two, Three}
 use Rattle.lines.specs.Names.{name_of}
-use Rattle.lines.specs.Lines.{arguments, register, factor, written, spaced, trailing, line_with}
+use Rattle.lines.specs.Lines.{arguments, register, factor, written, trailing, line_with}
 use Rattle.lines.specs.Pieces.{separates, onto, pieces}
 use Rattle.lines.proofs.Cuts.{at_separator, at_other}
 use Rattle.lines.proofs.Lengths.{Small, AllSmall, small}

@@ -1,5 +1,5 @@
 -- The one line of each instruction.
-use Rattle.std.specs.Prelude.{◌≡◌, ℕ, ◌+◌, ◌*◌, ◌<◌, List, [], ◌∷◌, ◌++◌, length, drop, ℤ, pos, ◌*ℤ◌, Some, None, codes, decimal, Option, Result, MatchOption, MatchResult, ◌≢◌, slice_index}
+use Rattle.std.specs.Prelude.{◌≡◌, ℕ, ◌+◌, ◌*◌, ◌<◌, List, [], ◌++◌, length, drop, ℤ, pos, ◌*ℤ◌, Some, None, codes, decimal, Option, Result, MatchOption, MatchResult, ◌≢◌, slice_index}
 use Rattle.std.specs.Int.{w8, w16}
 use Rattle.std.proofs.Common.{to_z}
 use Rattle.std.specs.Fmt.{signed_decimal}

@@ -2,7 +2,6 @@
 use Rattle.std.specs.Prelude.{ℕ, ◌+◌, ◌/◌, ◌%◌, Bool, true, false, cond, List, [], ◌∷◌, ◌++◌, map, Some, None, Option, ◌==◌, slice_index_or}
 use Rattle.arith.specs.declared.width.Width.{Width}
 use Rattle.isa.specs.declared.opcode.Opcode.{Opcode}
-use Rattle.isa.specs.declared.opcode.Kind.{Kind}
 use Rattle.isa.specs.declared.opcode.Reach.{Reach}
 use Rattle.isa.specs.declared.opcode.Scale.{Scale}
 use Rattle.isa.specs.declared.opcode.Source.{Source}

@@ -17,7 +17,7 @@ use Rattle.machine.specs.declared.fault.Cause.{Cause}
 use Rattle.machine.specs.Cores.{Core, Heard, found, no_more, Act, moves, gets, puts, halts, traps, faults}
 use Rattle.machine.specs.Effects.{Computed, computes, stores, onward, hears, effect}
 use Rattle.machine.specs.Leavings.{split, lifted, settled, heard, put_tried, Left, leaves, leaves_get, leaves_put}
-use Rattle.machine.specs.Steps.{Next, goes, waits, full, living, next_of, next_get}
+use Rattle.machine.specs.Steps.{Next, goes, full, living, next_of, next_get}
 use Rattle.machine.specs.Tryings.{Tells}
 
 -- arithmetic and loads

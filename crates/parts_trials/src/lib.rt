@@ -73,7 +73,9 @@ mod tests {
         let border = show(b"rule", b"work", 4, 0).ok().ok_or("none")?;
         assert!(rt; border.source == Source::Rule);
         let part = show(b"rule", b"work", 5, 2).ok().ok_or("none")?;
-        assert!(rt; part.source == Source::Work && part.offset == 1 && part.bytes == b"or");
+        assert!(rt;
+            part.source == Source::Work && part.offset == 1 && part.bytes == b"or".as_slice()
+        );
         assert!(rt; show(b"rule", b"work", 3, 2).is_err());
         assert!(rt; show(b"rule", b"work", 8, 0).is_ok());
         assert!(rt; show(b"rule", b"work", 9, 0).is_err());

@@ -1,4 +1,4 @@
-use Rattle.std.proofs.Common.{◌≡◌, Bool, List, [], length, Ok, Err, vec_items, Result, sym, refl, ap, ◌∙◌, subst}
+use Rattle.std.proofs.Common.{List, length, Ok, Err, vec_items, Result, sym, subst}
 use Rattle.std.specs.declared.alloc.AllocError.{AllocError}
 use Rattle.calls.specs.Calls.{Ask, replies_of, Listed, first_stand}
 use Rattle.calls.specs.Posts.{Scene, stand_in, PerformedSo, PerformSo}

@@ -1,7 +1,7 @@
 -- Two jobs that start alike, on any two memories and consoles.
 -- Assumes nothing.
-use Rattle.std.specs.Prelude.{◌≡◌, ℕ, Bool, List, [], Ok, Err, vec_items, Result}
-use Rattle.calls.specs.Calls.{Ask, replies_of, Stand}
+use Rattle.std.specs.Prelude.{◌≡◌, List, [], Ok, Err, vec_items, Result}
+use Rattle.calls.specs.Calls.{Ask, replies_of}
 use Rattle.calls.specs.Laws.{input_of, Agree, Alike}
 use Rattle.calls.specs.Posts.{Scene, stand_in}
 use Rattle.calls.specs.declared.Performed.{Performed}

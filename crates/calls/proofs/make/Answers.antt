@@ -1,4 +1,4 @@
-use Rattle.std.proofs.Common.{◌≡◌, sym, refl, ap, ◌∙◌, arith, rules}
+use Rattle.std.proofs.Common.{arith}
 use Rattle.calls.proofs.Makes.{run_made, took_so}
 use Rattle.calls.proofs.make.Goals as goal
 use Rattle.calls.proofs.make.Goals.{then-most-left, else-most-left}

@@ -1,4 +1,4 @@
-use Rattle.std.proofs.Common.{◌≡◌, ◌<◌, ◌≤◌, true, length, is_ok, vec_len, vec_capacity, sym, refl, ap, ◌∙◌, arith, rules}
+use Rattle.std.proofs.Common.{◌≡◌, ◌<◌, true, is_ok, vec_len, vec_capacity, arith, rules}
 use Rattle.calls.proofs.Chains.{begun, turned, pushed_one, ended}
 use Rattle.calls.proofs.perform.Goals as goal
 

@@ -1,4 +1,4 @@
-use Rattle.std.proofs.Common.{◌≡◌, refl, rules}
+use Rattle.std.proofs.Common.{refl}
 use Rattle.calls.proofs.Makes.{run-paused, run-ended, run-refused, run_passed}
 use Rattle.calls.proofs.run_or_pass.Goals as goal
 

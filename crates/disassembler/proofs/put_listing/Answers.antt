@@ -1,4 +1,4 @@
-use Rattle.std.proofs.Common.{◌≡◌, ◌++◌, drop, vec_items, sym, ap, ◌∙◌, arith, length-drop}
+use Rattle.std.proofs.Common.{◌++◌, drop, vec_items, sym, ap, ◌∙◌, arith, length-drop}
 use Rattle.std.proofs.lemmas.List.{take_rest}
 use Rattle.disassembler.specs.Listings.{byte_lines}
 use Rattle.disassembler.proofs.Steps.{listed_more, few_left}

@@ -1,4 +1,4 @@
-use Rattle.std.proofs.Common.{◌≡◌, List, ◌++◌, vec_items, codes, sym, ap, ◌∙◌, append_assoc}
+use Rattle.std.proofs.Common.{◌++◌, vec_items, codes, sym, ap, ◌∙◌, append_assoc}
 use Rattle.lines.specs.Lines.{line_of}
 use Rattle.disassembler.specs.Listings.{lines_as}
 use Rattle.disassembler.proofs.put_word.Goals as goal

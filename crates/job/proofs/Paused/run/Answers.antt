@@ -1,4 +1,4 @@
-use Rattle.std.proofs.Common.{◌≡◌, sym, refl, ap, ◌∙◌, arith, rules}
+use Rattle.std.proofs.Common.{refl, ◌∙◌, arith, rules}
 use Rattle.job.specs.Runs.{here}
 use Rattle.job.proofs.Turns.{one_more, last_one, waited, filled_up, failed}
 use Rattle.job.proofs.Outcomes.{accepted}

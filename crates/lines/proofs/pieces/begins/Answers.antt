@@ -1,4 +1,4 @@
-use Rattle.std.proofs.Common.{◌≡◌, ◌+◌, [], get_or, drop, sym, ap, ◌∙◌, arith}
+use Rattle.std.proofs.Common.{◌+◌, [], get_or, drop, sym, ap, ◌∙◌, arith}
 use Rattle.lines.specs.Pieces.{pieces}
 use Rattle.lines.proofs.Cuts.{skip_separator, skip_other, at_end}
 use Rattle.lines.proofs.pieces.begins.Goals as goal

@@ -1,6 +1,6 @@
-use Rattle.std.proofs.Common.{◌≡◌, [], get_or, drop, sym, ap, ◌∙◌, arith}
+use Rattle.std.proofs.Common.{sym, ap, ◌∙◌, arith}
 use Rattle.std.proofs.lemmas.List.{at_drop_all}
-use Rattle.lines.specs.Reading.{bases, named_in}
+use Rattle.lines.specs.Reading.{named_in}
 use Rattle.lines.proofs.Searches.{found, passed}
 use Rattle.lines.proofs.reading.named.Goals as goal
 

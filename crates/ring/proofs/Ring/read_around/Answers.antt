@@ -1,4 +1,4 @@
-use Rattle.std.proofs.Common.{◌≡◌, ◌+◌, ◌-◌, length, take, drop, refl, ap, ◌∙◌, arith, rules}
+use Rattle.std.proofs.Common.{◌≡◌, ◌-◌, length, take, drop, refl, arith, rules}
 use Rattle.ring.proofs.Writes.{reads_around}
 use Rattle.ring.proofs.Ring.read_around.Goals as goal
 

@@ -1,4 +1,4 @@
-use Rattle.std.proofs.Common.{◌≡◌, length, sym, ap, ◌∙◌, inl, inr, arith}
+use Rattle.std.proofs.Common.{◌≡◌, sym, ◌∙◌, inl, inr, arith}
 use Rattle.ring.specs.Queues.{ring_list, items}
 use Rattle.ring.proofs.Turns.{ring_in, length-ring}
 use Rattle.ring.proofs.Ring.span.Goals as goal

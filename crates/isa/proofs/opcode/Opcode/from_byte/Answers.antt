@@ -1,6 +1,6 @@
 use Rattle.std.proofs.Common.{None, rules}
 use Rattle.isa.proofs.Tabulated.{at}
-use Rattle.isa.specs.Opcodes.{opcodes, opcode_of}
+use Rattle.isa.specs.Opcodes.{opcode_of}
 use Rattle.isa.proofs.opcode.Opcode.from_byte.Goals as goal
 
 pub returns : goal.returns

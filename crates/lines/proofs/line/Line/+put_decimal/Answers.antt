@@ -1,6 +1,6 @@
-use Rattle.std.proofs.Common.{◌≡◌, ◌+◌, ◌/◌, ◌%◌, [], ◌∷◌, decimal, sym, ap, ◌∙◌, arith}
+use Rattle.std.proofs.Common.{◌+◌, ◌/◌, ◌%◌, [], ◌∷◌, decimal, arith}
 use Rattle.std.proofs.lemmas.Fmt.{decimal_digit, decimal_step}
-use Rattle.lines.specs.Texts.{text_of, clipped}
+use Rattle.lines.specs.Texts.{text_of}
 use Rattle.lines.proofs.Clips.{clipped-clipped}
 use Rattle.lines.proofs.line.Line.+put_decimal.Goals as goal
 

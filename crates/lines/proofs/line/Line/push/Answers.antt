@@ -1,4 +1,4 @@
-use Rattle.std.proofs.Common.{◌<◌, length, arith, length-take, rules}
+use Rattle.std.proofs.Common.{arith, length-take, rules}
 use Rattle.lines.specs.Texts.{text_of}
 use Rattle.lines.proofs.Clips.{one_more, no_more}
 use Rattle.lines.proofs.line.Line.push.Goals as goal

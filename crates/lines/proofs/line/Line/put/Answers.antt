@@ -1,4 +1,4 @@
-use Rattle.std.proofs.Common.{◌≡◌, List, [], ◌∷◌, take, sym, ap, ◌∙◌, arith, length-take}
+use Rattle.std.proofs.Common.{sym, ap, ◌∙◌, arith, length-take}
 use Rattle.std.proofs.lemmas.List.{take_all}
 use Rattle.lines.specs.Texts.{text_of, clipped}
 use Rattle.lines.proofs.Clips.{clipped_more, clipped_nothing}

@@ -1,4 +1,3 @@
-use Rattle.std.proofs.Common.{◌≡◌, ap, ◌∙◌}
 use Rattle.lines.proofs.Clips.{then}
 use Rattle.lines.proofs.line.Line.put_next.Goals as goal
 
