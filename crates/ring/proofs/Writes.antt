@@ -78,8 +78,8 @@ around_new bytes more x y at k j n i d s h =
     (cases_lt i k)
 
 -- what a list has after its front, place by place
-get_d_after : (more was : List ℕ) (i d : ℕ) → length more ≤ i → get_or (more ++ drop (length more) was) i d ≡ get_or was i d
-get_d_after more was i d l =
+get_or_after : (more was : List ℕ) (i d : ℕ) → length more ≤ i → get_or (more ++ drop (length more) was) i d ≡ get_or was i d
+get_or_after more was i d l =
     let whole : length more + (i - length more) ≡ i = omega arith in
     get_or-append_right more (drop (length more) was) (length more) i d refl l ∙ rw (get_or-drop (length more) was (i - length more) d, whole)
 
@@ -94,7 +94,7 @@ wrote bytes more x y at k j n s =
     get_or-turned (both bytes x y at k j) at i d n size s.start h
     ∙ ⊎_elim
     (λ l. around_new bytes more x y at k j n i d s l ∙ sym (get_or_append_left more (drop (length more) (turned bytes at)) d i l))
-    (λ l. around_rest bytes more x y at k j n i d s l h ∙ sym (get_or-turned bytes at i d n s.size s.start h) ∙ sym (get_d_after more (turned bytes at) i d l))
+    (λ l. around_rest bytes more x y at k j n i d s l h ∙ sym (get_or-turned bytes at i d n s.size s.start h) ∙ sym (get_or_after more (turned bytes at) i d l))
     (cases_lt i (length more)))
 
 -- the same for a ring whose last byte lies before at
@@ -109,7 +109,7 @@ ring-append bytes then more start len at n e f s h a t =
     rw w
     (sym (get_or-turned then at (n - len + i) d n f place below)
     ∙ ap (λ xs. get_or xs (n - len + i) d) t
-    ∙ get_d_after more (turned bytes at) (n - len + i) d past
+    ∙ get_or_after more (turned bytes at) (n - len + i) d past
     ∙ get_or-turned bytes at (n - len + i) d n e place below))
     (λ i d l.
     let w : wrapped (start + (len + i)) n ≡ wrapped (at + i) n = grind (arith, nat_tests) in
