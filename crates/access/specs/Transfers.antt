@@ -1,6 +1,6 @@
 -- Numbers that lie in several cells, highest byte first: what loads, fetches and stores give.
 -- Assumes nothing.
-use Rattle.std.specs.Prelude.{◌≡◌, ℕ, zero, suc, ◌+◌, ◌/◌, ◌%◌, Bool, true, false, cond, ◌&&◌, ◌⊎◌, List, [], ◌∷◌, ◌++◌, length, take, drop, Ok, Err, Result, ◌==◌, nat_le, slice_index_or}
+use Rattle.std.specs.Prelude.{ℕ, zero, suc, ◌+◌, ◌/◌, ◌%◌, Bool, true, false, cond, ◌&&◌, List, [], ◌∷◌, ◌++◌, length, take, drop, Ok, Err, Result, ◌==◌, nat_le, slice_index_or}
 use Rattle.arith.specs.declared.width.Extension.{Extension}
 use Rattle.arith.specs.declared.width.Width.{Width}
 use Rattle.arith.specs.Whole.{widened}
@@ -11,10 +11,6 @@ use Rattle.access.specs.declared.fault.AccessFault.{AccessFault}
 use Rattle.access.specs.declared.fault.Cause.{Cause}
 use Rattle.access.specs.Faults.{told}
 use Rattle.std.specs.Int.Digits.{number_from_digits}
-
--- the sizes that an access can have
-abbrev pub Size : ℕ → Type 0
-Size n = (n ≡ 8) ⊎ ((n ≡ 4) ⊎ ((n ≡ 2) ⊎ (n ≡ 1)))
 
 -- the number in n cells from an address on: their bytes are its digits in base 256
 abbrev pub number_at : List ℕ → ℕ → ℕ → ℕ

@@ -1,6 +1,6 @@
 // What can be wrong with an access.
 ghost use Rattle.std.specs.Prelude.{◌≡◌};
-ghost use Rattle.access.specs.Faults.{told, number};
+ghost use Rattle.access.specs.Faults.{number};
 ghost use Rattle.access.specs.declared.fault.Cause.{Cause};
 
 use arith::width::Width;
@@ -21,6 +21,7 @@ pub enum Cause {
     Cell(CellFault),
 }
 
+// By hand, since contracts say what `?` makes of a cell's fault.
 impl From<CellFault> for Cause {
     ghost from_gives = { λ cell r. r ≡ Cause.Cell cell };
 
@@ -39,7 +40,7 @@ pub struct AccessFault {
 }
 
 impl AccessFault {
-    // The number that a fault is told by.
+    // The number that a fault is told by. It has a name: `u8::from` would not say what number it is.
     pub fn number(self) -> u8
         ensures { result ≡ number self }
     {
@@ -50,25 +51,5 @@ impl AccessFault {
             (_, Cause::Cell(CellFault::Outside)) => 105,
             (_, Cause::Cell(CellFault::Shut)) => 106,
         }
-    }
-}
-
-// What became of an access, with the access named where it failed.
-pub(crate) fn tell<T>(
-    access: Access,
-    address: u64,
-    width: Width,
-    what: Result<T, Cause>,
-) -> Result<T, AccessFault>
-    ensures { result ≡ told access address width what }
-{
-    match what {
-        Ok(value) => Ok(value),
-        Err(cause) => Err(AccessFault {
-            access,
-            address,
-            width,
-            cause,
-        }),
     }
 }

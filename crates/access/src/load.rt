@@ -1,14 +1,16 @@
 // Numbers read from several cells.
-ghost use Rattle.std.specs.Prelude.{◌≡◌, ◌*◌, ◌^◌, ◌<◌, ◌≤◌, length, IfSome, IfOk, Ok};
+ghost use Rattle.std.specs.Prelude.{◌≡◌, ◌*◌, ◌%◌, ◌^◌, ◌<◌, ◌≤◌, length, take, IfSome, IfOk, OnSome};
 ghost use Rattle.arith.specs.Widths.{bytes_of};
-ghost use Rattle.access.specs.Transfers.{Size, found, widely, loaded, fetched};
+ghost use Rattle.access.specs.Transfers.{found, loaded, fetched};
 ghost use Rattle.std.specs.Int.Digits.{number_from_digits};
 
-use crate::fault::{Access, AccessFault, Cause, tell};
+use crate::align::check_aligned;
+use crate::fault::{Access, AccessFault, Cause};
 use arith::width::{Extension, Width, widen};
 use memory::cells::Memory;
 
 // The number in the cells from an address on, widened to 64 bits.
+#[tactic(auto, using(crate::proofs::Loads::widening))]
 pub fn load<M: Memory>(
     memory: &M,
     at: u64,
@@ -17,98 +19,68 @@ pub fn load<M: Memory>(
 ) -> Result<u64, AccessFault>
     ensures { result ≡ loaded (M.cells memory.now) at width extension }
 {
-    tell(
-        Access::Load,
-        at,
-        width,
-        of_width(memory, at, width, extension),
-    )
+    number_at(memory, at, width)
+        .map(|number| widen(extension, width, number))
+        .map_err(|cause| AccessFault {
+            access: Access::Load,
+            address: at,
+            width,
+            cause,
+        })
 }
 
 // The word of an instruction, which lies in four cells.
 pub fn fetch<M: Memory>(memory: &M, at: u64) -> Result<u32, AccessFault>
     ensures { result ≡ fetched (M.cells memory.now) at }
 {
-    tell(Access::Fetch, at, Width::Long, word(memory, at))
+    number_at(memory, at, Width::Long)
+        .map(|number| number as u32)
+        .map_err(|cause| AccessFault {
+            access: Access::Fetch,
+            address: at,
+            width: Width::Long,
+            cause,
+        })
 }
 
-fn word<M: Memory>(memory: &M, at: u64) -> Result<u32, Cause>
-    ensures { result ≡ found (M.cells memory.now) at 4 }
-{
-    let number = match side_by_side(memory, at, 4) {
-        Some(number) => number,
-        None => one_by_one(memory, at, 4)?,
-    };
-    Ok(number as u32)
-}
-
-fn of_width<M: Memory>(
-    memory: &M,
-    at: u64,
-    width: Width,
-    extension: Extension,
-) -> Result<u64, Cause>
-    ensures { result ≡ widely extension width (found (M.cells memory.now) at (bytes_of width)) }
-{
-    let number = bare(memory, at, width)?;
-    Ok(widen(extension, width, number))
-}
-
-// The size is written out at each call, so that the loop over the cells is unrolled.
-fn bare<M: Memory>(memory: &M, at: u64, width: Width) -> Result<u64, Cause>
+// The number in the cells from an address on. Always inlined, so that a fetch, whose width is fixed, has no branch on
+// the width.
+#[inline(always)]
+fn number_at<M: Memory>(memory: &M, at: u64, width: Width) -> Result<u64, Cause>
     ensures value { result ≡ found (M.cells memory.now) at (bytes_of width) }
     ensures small { IfOk result (λ n. n < 2 ^ (8 * bytes_of width)) }
 {
-    let near = match width {
-        Width::Quad => side_by_side(memory, at, 8),
-        Width::Long => side_by_side(memory, at, 4),
-        Width::Word => side_by_side(memory, at, 2),
-        Width::Byte => side_by_side(memory, at, 1),
-    };
-    match near {
+    check_aligned(at, width)?;
+    match leading(memory.stretch(at), width) {
         Some(number) => Ok(number),
-        None => one_by_one(memory, at, width.bytes()),
+        None => one_by_one(memory, at, width),
     }
 }
 
-// The number in cells that the memory has at hand side by side.
-fn side_by_side<M: Memory>(memory: &M, at: u64, size: u8) -> Option<u64>
-    requires { Size size }
-    ensures { IfSome result (λ n. (Ok n ≡ found (M.cells memory.now) at size) × (n < 2 ^ (8 * size))) }
+// The number that the first bytes write, highest first, if there are as many as the width has.
+#[inline(always)]
+fn leading(bytes: &[u8], width: Width) -> Option<u64>
+    ensures enough { OnSome result (bytes_of width ≤ length bytes.now) }
+    ensures value { IfSome result (λ n. n ≡ number_from_digits 256 (take (bytes_of width) bytes.now)) }
+    ensures small { IfSome result (λ n. n < 2 ^ (8 * bytes_of width)) }
 {
-    let near = memory.stretch(at);
-    if at % size as u64 == 0 && size as usize <= near.len() {
-        Some(number_in(&near[0..size as usize]))
-    } else {
-        None
-    }
+    Some(match width {
+        Width::Byte => u64::from(*bytes.first()?),
+        Width::Word => u64::from(u16::from_be_bytes(*bytes.first_chunk()?)),
+        Width::Long => u64::from(u32::from_be_bytes(*bytes.first_chunk()?)),
+        Width::Quad => u64::from_be_bytes(*bytes.first_chunk()?),
+    })
 }
 
-// The number in any cells, or what is wrong with them.
-fn one_by_one<M: Memory>(memory: &M, at: u64, size: u8) -> Result<u64, Cause>
-    requires { Size size }
-    ensures value { result ≡ found (M.cells memory.now) at size }
-    ensures small { IfOk result (λ n. n < 2 ^ (8 * size)) }
+// The number in cells that the memory does not have at hand side by side, or what is wrong with them.
+fn one_by_one<M: Memory>(memory: &M, at: u64, width: Width) -> Result<u64, Cause>
+    requires { at % bytes_of width ≡ 0 }
+    ensures value { result ≡ found (M.cells memory.now) at (bytes_of width) }
+    ensures small { IfOk result (λ n. n < 2 ^ (8 * bytes_of width)) }
 {
-    if at % size as u64 != 0 {
-        return Err(Cause::Misaligned);
+    let mut number = 0u64;
+    for k in 0..width.bytes() {
+        number = number * 256 + u64::from(memory.read(at + u64::from(k))?);
     }
-    let mut bytes = [0u8; 8];
-    for k in 0..size {
-        bytes[k as usize] = memory.read(at + k as u64)?;
-    }
-    Ok(number_in(&bytes[0..size as usize]))
-}
-
-// The number that bytes write, highest first.
-fn number_in(bytes: &[u8]) -> u64
-    requires { length bytes.now ≤ 8 }
-    ensures value { result ≡ number_from_digits 256 bytes.now }
-    ensures small { result < 2 ^ (8 * length bytes.now) }
-{
-    let mut sum = 0u64;
-    for byte in bytes {
-        sum = sum * 256 + *byte as u64;
-    }
-    sum
+    Ok(number)
 }

@@ -1,10 +1,12 @@
 // Numbers put into several cells.
 ghost use Rattle.std.specs.Prelude.{◌≡◌, ◌+◌, ◌≤◌, true, length};
 ghost use Rattle.arith.specs.Widths.{bytes_of};
-ghost use Rattle.access.specs.Transfers.{Size, all_open, storable, over, after_store, store_says};
+ghost use Rattle.memory.specs.Slices.{Kept};
+ghost use Rattle.access.specs.Transfers.{all_open, storable, over, after_store, store_says};
 ghost use Rattle.access.specs.Stores.{Stores};
 
-use crate::fault::{Access, AccessFault, Cause, tell};
+use crate::align::check_aligned;
+use crate::fault::{Access, AccessFault, Cause};
 use arith::width::Width;
 use memory::cells::{CellFault, Memory};
 
@@ -17,71 +19,47 @@ pub fn store<M: Memory>(
 ) -> Result<(), AccessFault>
     ensures answer { result ≡ store_says (M.marks memory.old) at width }
     ensures after { M.cells memory.new ≡ after_store (M.marks memory.old) (M.cells memory.old) at (bytes_of width) value }
-    ensures kept { M.marks memory.new ≡ M.marks memory.old }
-    ensures loaned { M.loans memory.new ≡ M.loans memory.old }
+    ensures kept { Kept M.marks M.loans memory.old memory.new }
     ensures laws { Stores (M.marks memory.old) (M.cells memory.old) (M.cells memory.new) at width value result }
 {
-    tell(Access::Store, at, width, of_width(memory, at, width, value))
-}
-
-// The size is written out at each call, so that the loops over the cells are unrolled.
-fn of_width<M: Memory>(memory: &mut M, at: u64, width: Width, value: u64) -> Result<(), Cause>
-    ensures answer { result ≡ storable (M.marks memory.old) at (bytes_of width) }
-    ensures after { M.cells memory.new ≡ after_store (M.marks memory.old) (M.cells memory.old) at (bytes_of width) value }
-    ensures kept { M.marks memory.new ≡ M.marks memory.old }
-    ensures loaned { M.loans memory.new ≡ M.loans memory.old }
-{
-    match width {
-        Width::Quad => of_size(memory, at, 8, value),
-        Width::Long => of_size(memory, at, 4, value),
-        Width::Word => of_size(memory, at, 2, value),
-        Width::Byte => of_size(memory, at, 1, value),
-    }
-}
-
-fn of_size<M: Memory>(memory: &mut M, at: u64, size: u8, value: u64) -> Result<(), Cause>
-    requires { Size size }
-    ensures answer { result ≡ storable (M.marks memory.old) at size }
-    ensures after { M.cells memory.new ≡ after_store (M.marks memory.old) (M.cells memory.old) at size value }
-    ensures kept { M.marks memory.new ≡ M.marks memory.old }
-    ensures loaned { M.loans memory.new ≡ M.loans memory.old }
-{
-    ask(memory, at, size)?;
-    put(memory, at, size, value);
+    ask(memory, at, width).map_err(|cause| AccessFault {
+        access: Access::Store,
+        address: at,
+        width,
+        cause,
+    })?;
+    put(memory, at, width, value);
     Ok(())
 }
 
-// What a store would give. Outside is told before shut, so the last cell is looked for first.
-fn ask<M: Memory>(memory: &M, at: u64, size: u8) -> Result<(), Cause>
-    requires { Size size }
-    ensures { result ≡ storable (M.marks memory.now) at size }
+// What a store would give. Outside is told before shut, so the last cell is looked for first. Always inlined, as `put`
+// is, since `store` alone calls it.
+#[inline(always)]
+fn ask<M: Memory>(memory: &M, at: u64, width: Width) -> Result<(), Cause>
+    ensures { result ≡ storable (M.marks memory.now) at (bytes_of width) }
 {
-    if at % size as u64 != 0 {
-        return Err(Cause::Misaligned);
-    }
-    let last = at + (size - 1) as u64;
+    check_aligned(at, width)?;
+    let last = at + u64::from(width.bytes() - 1);
     if last >= memory.size() as u64 {
         return Err(Cause::Cell(CellFault::Outside));
     }
-    for k in 0..size {
-        memory.writable(at + k as u64)?;
+    for k in 0..width.bytes() {
+        memory.writable(at + u64::from(k))?;
     }
     Ok(())
 }
 
 // Puts the low bytes of a value into cells that may be written, the lowest into the last.
-fn put<M: Memory>(memory: &mut M, at: u64, size: u8, value: u64)
-    requires room { at + size ≤ length (M.marks memory.old) }
-    requires open { all_open (M.marks memory.old) at size ≡ true }
-    ensures after { M.cells memory.new ≡ over (M.cells memory.old) at size value }
-    ensures kept { M.marks memory.new ≡ M.marks memory.old }
-    ensures loaned { M.loans memory.new ≡ M.loans memory.old }
+#[inline(always)]
+fn put<M: Memory>(memory: &mut M, at: u64, width: Width, value: u64)
+    requires room { at + bytes_of width ≤ length (M.marks memory.old) }
+    requires open { all_open (M.marks memory.old) at (bytes_of width) ≡ true }
+    ensures after { M.cells memory.new ≡ over (M.cells memory.old) at (bytes_of width) value }
+    ensures kept { Kept M.marks M.loans memory.old memory.new }
 {
     let mut rest = value;
-    let mut left = size;
-    while left > 0 {
-        left -= 1;
-        let _ = memory.write(at + left as u64, (rest % 256) as u8);
+    for k in (0..width.bytes()).rev() {
+        let _ = memory.write(at + u64::from(k), (rest % 256) as u8);
         rest /= 256;
     }
 }

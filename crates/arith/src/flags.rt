@@ -1,5 +1,5 @@
 // What additions and subtractions tell beside their result.
-#[derive(Clone, Copy, PartialEq, Eq, Debug)]
+#[derive(Clone, Copy, Default, PartialEq, Eq, Debug)]
 pub struct Flags {
     pub zero: bool,
     pub carry: bool,

@@ -3,7 +3,6 @@
 
 pub mod bits;
 pub mod flags;
-pub mod loads;
 pub mod products;
 pub mod signs;
 pub mod sums;

@@ -2,7 +2,7 @@
 ghost use Rattle.std.specs.Prelude.{◌≡◌};
 ghost use Rattle.arith.specs.Whole.{word, product, divided, divided_signed};
 
-use crate::signs::{with_sign, word_of};
+use crate::signs::word_of;
 
 // b × a.
 pub fn multiply(b: u64, a: u64) -> u64
@@ -15,29 +15,24 @@ pub fn multiply(b: u64, a: u64) -> u64
 pub fn multiply_by_byte(b: u64, x: i8) -> u64
     ensures { result ≡ product b (word x) }
 {
-    multiply(b, word_of(x as i64))
+    multiply(b, word_of(x))
 }
 
 // Quotient and remainder of b by a, without a sign; none where a is 0.
 pub fn divide(b: u64, a: u64) -> Option<(u64, u64)>
     ensures { result ≡ divided b a }
 {
-    if a == 0 {
-        return None;
-    }
-    Some((b / a, b % a))
+    Some((b.checked_div(a)?, b.checked_rem(a)?))
 }
 
 // Quotient and remainder of b by a, with a sign; none where a is 0.
 pub fn divide_signed(b: u64, a: u64) -> Option<(u64, u64)>
     ensures { result ≡ divided_signed b a }
 {
-    if a == 0 {
-        return None;
-    }
-    let dividend = with_sign(b);
-    let divisor = with_sign(a);
-    let quotient = dividend.wrapping_div(divisor);
-    let remainder = dividend.wrapping_rem(divisor);
-    Some((word_of(quotient), word_of(remainder)))
+    (a != 0).then(|| {
+        let (dividend, divisor) = (b.cast_signed(), a.cast_signed());
+        let quotient = dividend.wrapping_div(divisor);
+        let remainder = dividend.wrapping_rem(divisor);
+        (word_of(quotient), word_of(remainder))
+    })
 }

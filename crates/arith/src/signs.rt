@@ -1,16 +1,16 @@
-// Words read with a sign, and numbers with a sign as words.
-ghost use Rattle.std.specs.Prelude.{◌≡◌};
-ghost use Rattle.arith.specs.Whole.{s, word};
+// Numbers with a sign as words.
+ghost use Rattle.std.specs.Prelude.{◌≡◌, ℤ};
+ghost use Rattle.arith.specs.Whole.{word};
 
-// The number that a word's bits stand for in two's complement.
-pub(crate) fn with_sign(bits: u64) -> i64
-    ensures { result ≡ s bits }
+// The word that holds a number of any type whose values all fit 64 bits with a sign.
+pub fn word_of<N: Into<i64>>(number: N) -> u64
+    ensures { (n : ℤ) × N.converts number n × (result ≡ word n) }
 {
-    bits.cast_signed()
+    in_complement(number.into())
 }
 
-// The word that holds a number.
-pub fn word_of(number: i64) -> u64
+// The number in two's complement.
+fn in_complement(number: i64) -> u64
     ensures { result ≡ word number }
 {
     number.cast_unsigned()

@@ -53,14 +53,15 @@ fn low_bytes(width: Width, value: u64) -> u64
     }
 }
 
+// `as` keeps the low bits, which no `From` does.
 fn signed_low_bytes(width: Width, value: u64) -> i64
     ensures { result ≡ signed (8 * bytes_of width) (value % 2 ^ (8 * bytes_of width)) }
 {
     let low = low_bytes(width, value);
     match width {
-        Width::Byte => (low as u8).cast_signed() as i64,
-        Width::Word => (low as u16).cast_signed() as i64,
-        Width::Long => (low as u32).cast_signed() as i64,
+        Width::Byte => i64::from((low as u8).cast_signed()),
+        Width::Word => i64::from((low as u16).cast_signed()),
+        Width::Long => i64::from((low as u32).cast_signed()),
         Width::Quad => low.cast_signed(),
     }
 }

@@ -1,102 +1,78 @@
 -- Laws of the ideal machine: an open input can grow, and what it comes to is settled.
 -- None of these opens `try`: an act is taken by cases as it is.
-use Rattle.std.proofs.Common.{◌≡◌, ℕ, suc, ◌+◌, ◌<◌, Bool, true, false, ◌⊎◌, List, [], ◌∷◌, ◌++◌, length, sym, refl, ap, ◌∙◌, subst, inl, inr, append-nil, arith, length-append}
+use Rattle.std.proofs.Common.{◌≡◌, ℕ, suc, ◌+◌, ◌<◌, Bool, true, false, ◌⊎◌, List, [], ◌∷◌, ◌++◌, length, refl, ap, subst, inl, inr, append-nil, arith, length-append}
 use Rattle.machine.specs.Cores.{Core, Heard, Act, moves, gets, puts, halts, traps, faults}
 use Rattle.machine.specs.Tries.{try}
 use Rattle.machine.specs.Steps.{Life, live, over}
-use Rattle.calls.specs.Ulms.{Ulm, Turn, turns, breaks, done, ulm_at, turn_get, turn_of, turn_if, turn, Goes, at_rest, on, StandsAt, first_ulm}
+use Rattle.calls.specs.Ulms.{Ulm, Turn, turns, still, breaks, done, ulm_at, turn_get, turn_if, turn, Goes, at_rest, on, StandsAt, first_ulm}
 use Rattle.calls.specs.Laws.{Begins, Agree}
-use Rattle.machine.specs.declared.fault.Fault as fault
 use Rattle.machine.specs.declared.ending.Ending.{Ending}
 use Rattle.machine.specs.declared.ending.Ending.TheVariants.{Halt, Trap, Fault}
 
 abbrev pub longer : Ulm → List ℕ → Ulm
 longer u f = ulm_at u.core (u.rest ++ f) u.out u.halted
 
-inj : (u m : Ulm) → turns u ≡ turns m → u ≡ m
-inj u m e = cc
+-- a turn of a machine against one of the same machine with more input: it goes to the same place, where the input was open,
+-- and a fault does not depend on the input
+abbrev Grown : Bool → List ℕ → Turn → Turn → Type 0
+Grown closed f (turns m) y = closed ≡ false → y ≡ turns (longer m f)
+Grown closed f (breaks w) y = y ≡ breaks w
+Grown closed f still y = Unit {0}
+Grown closed f done y = Unit {0}
 
-lift : (f : List ℕ) (u m : Ulm) → turns u ≡ turns m → turns (longer u f) ≡ turns (longer m f)
-lift f u m e = ap (λ z. turns (longer z f)) (inj u m e)
+module _ (closed other : Bool) (f : List ℕ) (c : Core) where
+  grown_get : (g : Heard → Core) (rest out : List ℕ) (b : Bool) → b ≡ closed → Grown closed f (turn_get g rest b out) (turn_get g (rest ++ f) other out)
+  grown_get g [] out true e = λ h. absurd cc
+  grown_get g [] out false e = tt
+  grown_get g (b ∷ bs) out d e = λ h. refl
 
-more_get : (closed : Bool) (f : List ℕ) (m : Ulm) (g : Heard → Core) (rest out : List ℕ) →
-    turn_get g rest false out ≡ turns m → turn_get g (rest ++ f) closed out ≡ turns (longer m f)
-more_get closed f m g [] out e = cc
-more_get closed f m g (b ∷ bs) out e = lift f _ m e
+  grown_if : (l : Life) (a : Act) (rest out : List ℕ) → Grown closed f (turn_if l closed a c rest out) (turn_if l other a c (rest ++ f) out)
+  grown_if live (moves d) rest out = λ h. refl
+  grown_if live (gets g) rest out = grown_get g rest out closed refl
+  grown_if live (puts b d) rest out = λ h. refl
+  grown_if live (halts n) rest out = λ h. refl
+  grown_if live (traps x y z) rest out = λ h. refl
+  grown_if live (faults w) rest out = refl
+  grown_if (over e) a rest out = tt
 
-more_of : (closed : Bool) (f : List ℕ) (m : Ulm) (a : Act) (c : Core) (rest out : List ℕ) →
-    turn_of false a c rest out ≡ turns m → turn_of closed a c (rest ++ f) out ≡ turns (longer m f)
-more_of closed f m (moves d) c rest out e = lift f _ m e
-more_of closed f m (gets g) c rest out e = more_get closed f m g rest out e
-more_of closed f m (puts b d) c rest out e = lift f _ m e
-more_of closed f m (halts n) c rest out e = lift f _ m e
-more_of closed f m (traps x y z) c rest out e = lift f _ m e
-more_of closed f m (faults w) c rest out e = cc
-
-more_if : (closed : Bool) (f : List ℕ) (m : Ulm) (l : Life) (a : Act) (c : Core) (rest out : List ℕ) →
-    turn_if l false a c rest out ≡ turns m → turn_if l closed a c (rest ++ f) out ≡ turns (longer m f)
-more_if closed f m live a c rest out e = more_of closed f m a c rest out e
-more_if closed f m (over w) a c rest out e = cc
+grown : (marks : List Bool) (closed other : Bool) (f : List ℕ) (u : Ulm) (x : Turn) → turn marks closed u ≡ x → Grown closed f x (turn marks other (longer u f))
+grown marks closed other f u x e =
+    subst (λ z. Grown closed f z (turn marks other (longer u f))) e (grown_if closed other f u.core u.halted (try marks u.core) u.rest u.out)
 
 pub more_goes : {marks : List Bool} (closed : Bool) (f : List ℕ) {u : Ulm} {n : ℕ} {v : Ulm} → Goes marks false u n v → Goes marks closed (longer u f) n (longer v f)
 more_goes closed f at_rest = at_rest
-more_goes {marks} closed f (on {u = u} {m = m} d p) = on (more_if closed f m u.halted (try marks u.core) u.core u.rest u.out d) (more_goes closed f p)
+more_goes {marks} closed f (on {u = u} {m = m} d p) = on (grown marks false closed f u (turns m) d refl) (more_goes closed f p)
 
 pub join_goes : {marks : List Bool} {closed : Bool} {u m v : Ulm} {n k : ℕ} → Goes marks closed u n m → Goes marks closed m k v → Goes marks closed u (n + k) v
-join_goes {marks} {closed} {v = v} {k = k} (at_rest {u}) q = let e : k ≡ 0 + k = omega arith in subst (λ i. Goes marks closed u i v) e q
-join_goes {marks} {closed} {v = v} {k = k} (on {u = u} {n = n} d p) q =
-    let e : suc (n + k) ≡ suc n + k = omega arith in subst (λ i. Goes marks closed u i v) e (on d (join_goes p q))
-
--- a fault does not depend on the input
-break_of : (closed other : Bool) (f : List ℕ) (w : fault.Fault) (a : Act) (c : Core) (rest out : List ℕ) →
-    turn_of closed a c rest out ≡ breaks w → turn_of other a c (rest ++ f) out ≡ breaks w
-break_of closed other f w (moves d) c rest out e = cc
-break_of true other f w (gets g) c [] out e = cc
-break_of false other f w (gets g) c [] out e = cc
-break_of closed other f w (gets g) c (b ∷ bs) out e = cc
-break_of closed other f w (puts b d) c rest out e = cc
-break_of closed other f w (halts n) c rest out e = cc
-break_of closed other f w (traps x y z) c rest out e = cc
-break_of closed other f w (faults v) c rest out e = e
-
-break_if : (closed other : Bool) (f : List ℕ) (w : fault.Fault) (l : Life) (a : Act) (c : Core) (rest out : List ℕ) →
-    turn_if l closed a c rest out ≡ breaks w → turn_if l other a c (rest ++ f) out ≡ breaks w
-break_if closed other f w live a c rest out e = break_of closed other f w a c rest out e
-break_if closed other f w (over z) a c rest out e = cc
+join_goes {k = k} at_rest q = let e : 0 + k ≡ k = omega arith in rw e q
+join_goes {k = k} (on {n = n} d p) q = let e : suc n + k ≡ suc (n + k) = omega arith in rw e (on d (join_goes p q))
 
 pub more_stands : (marks : List Bool) (closed other : Bool) (f : List ℕ) (u : Ulm) (e : Ending) → StandsAt marks closed u e → StandsAt marks other (longer u f) e
 more_stands marks closed other f u (Halt n) h = h
 more_stands marks closed other f u (Trap x y z) h = h
-more_stands marks closed other f u (Fault w) h = break_if closed other f w u.halted (try marks u.core) u.core u.rest u.out h
+more_stands marks closed other f u (Fault w) h = grown marks closed other f u (breaks w) h
 
 -- what it comes to is settled
-same_turn : (t : Turn) (m w : Ulm) → t ≡ turns m → t ≡ turns w → w ≡ m
-same_turn t m w d e = cc
-
 pub settled : {marks : List Bool} {closed : Bool} {u : Ulm} {n : ℕ} {v : Ulm} {k : ℕ} {w : Ulm} → Goes marks closed u n v → Goes marks closed u k w → n ≡ k → v ≡ w
 settled at_rest at_rest e = refl
-settled at_rest (on {n = n} d q) e = absurd (let z : ⊥ = omega arith in z)
-settled (on {n = n} d p) at_rest e = absurd (let z : ⊥ = omega arith in z)
-settled {marks} {closed} {w = w} (on {m = m} {n = n} d p) (on {m = x} {n = k} h q) e =
-    settled p (subst (λ z. Goes marks closed z k w) (same_turn _ m x d h) q) (omega arith)
-
-over_done : (marks : List Bool) (closed : Bool) (u : Ulm) (e : Ending) → u.halted ≡ over e → turn marks closed u ≡ done
-over_done marks closed u e h = ap (λ l. turn_if l closed (try marks u.core) u.core u.rest u.out) h
+settled at_rest (on {n = n} d q) e = absurd (omega arith)
+settled (on {n = n} d p) at_rest e = absurd (omega arith)
+settled (on {m = m} {n = n} d p) (on {m = x} {n = k} h q) e = let same : x ≡ m = cc in settled p (rw same at q) (omega arith)
 
 no_turn : (marks : List Bool) (closed : Bool) (u m : Ulm) (e : Ending) → StandsAt marks closed u e → turn marks closed u ≡ turns m → ⊥
-no_turn marks closed u m (Halt n) h d = let k = over_done marks closed u (Halt n) h in let z : ◌≡◌ {A = ℕ} 0 1 = cc in omega arith
-no_turn marks closed u m (Trap x y z) h d = let k = over_done marks closed u (Trap x y z) h in let z : ◌≡◌ {A = ℕ} 0 1 = cc in omega arith
-no_turn marks closed u m (Fault f) h d = let z : ◌≡◌ {A = ℕ} 0 1 = cc in omega arith
+no_turn marks closed u m (Halt n) h d = let k = rw h at d in cc
+no_turn marks closed u m (Trap x y z) h d = let k = rw h at d in cc
+no_turn marks closed u m (Fault f) h d = cc
 
 one_ending : (marks : List Bool) (closed : Bool) (u : Ulm) (e f : Ending) → StandsAt marks closed u e → StandsAt marks closed u f → e ≡ f
 one_ending marks closed u (Halt n) (Halt m) h k = cc
 one_ending marks closed u (Halt n) (Trap x y z) h k = cc
-one_ending marks closed u (Halt n) (Fault w) h k = let d = over_done marks closed u (Halt n) h in cc
+one_ending marks closed u (Halt n) (Fault w) h k = let d = rw h at k in cc
 one_ending marks closed u (Trap x y z) (Halt n) h k = cc
 one_ending marks closed u (Trap x y z) (Trap p q r) h k = cc
-one_ending marks closed u (Trap x y z) (Fault w) h k = let d = over_done marks closed u (Trap x y z) h in cc
-one_ending marks closed u (Fault w) (Halt n) h k = let d = over_done marks closed u (Halt n) k in cc
-one_ending marks closed u (Fault w) (Trap x y z) h k = let d = over_done marks closed u (Trap x y z) k in cc
+one_ending marks closed u (Trap x y z) (Fault w) h k = let d = rw h at k in cc
+one_ending marks closed u (Fault w) (Halt n) h k = let d = rw k at h in cc
+one_ending marks closed u (Fault w) (Trap x y z) h k = let d = rw k at h in cc
 one_ending marks closed u (Fault w) (Fault v) h k = cc
 
 pub ends_once : {marks : List Bool} {closed : Bool} {u : Ulm} {n : ℕ} {v : Ulm} {k : ℕ} {w : Ulm} (e f : Ending) → Goes marks closed u n v → Goes marks closed u k w →
@@ -104,9 +80,7 @@ pub ends_once : {marks : List Bool} {closed : Bool} {u : Ulm} {n : ℕ} {v : Ulm
 ends_once {marks} {closed} e f (at_rest {u}) at_rest a b = (refl, one_ending marks closed u e f a b)
 ends_once {marks} {closed} e f (at_rest {u}) (on {m = m} d q) a b = absurd (no_turn marks closed u m e a d)
 ends_once {marks} {closed} e f (on {u = u} {m = m} d p) at_rest a b = absurd (no_turn marks closed u m f b d)
-ends_once {marks} {closed} {w = w} e f (on {m = m} {n = n} d p) (on {m = x} {n = k} h q) a b =
-    let r = ends_once e f p (subst (λ z. Goes marks closed z k w) (same_turn _ m x d h) q) a b in
-    (ap suc r.0, r.1)
+ends_once e f (on {m = m} d p) (on {m = x} h q) a b = let same : x ≡ m = cc in let r = ends_once e f p (rw same at q) a b in (ap suc r.0, r.1)
 
 -- agreeing inputs both go on to one
 abbrev pub Extends : List ℕ → Bool → List ℕ → Bool → Type 0
@@ -114,10 +88,7 @@ Extends i c j d = (f : List ℕ) × (i ++ f ≡ j) × ((c ≡ false) ⊎ ((c ≡
 
 nothing_more : (i f j : List ℕ) → i ++ f ≡ j → (length i < length j → ◌≡◌ {A = Bool} true false) → f ≡ []
 nothing_more i [] j e h = refl
-nothing_more i (x ∷ f) j e h =
-    let l : length i < length j = omega (arith, length-append i (x ∷ f), ap length e) in
-    let z = h l in
-    cc
+nothing_more i (x ∷ f) j e h = let z = h (omega (arith, length-append i (x ∷ f), ap length e)) in cc
 
 common : (i : List ℕ) (c : Bool) (j : List ℕ) (d : Bool) → Begins i c j → (all : List ℕ) × (closed : Bool) × Extends i c all closed × Extends j d all closed
 common i false j d b = (j, d, (b.0, b.1, inl refl), ([], append-nil j, inr (refl, refl)))
@@ -129,19 +100,7 @@ agreeing i c j d (inl b) = common i c j d b
 agreeing i c j d (inr b) = let r = common j d i c b in (r.0, r.1, r.3, r.2)
 
 -- a run of the ideal machine on an input is one on what it goes on to
-no_longer : (u : Ulm) → longer u [] ≡ u
-no_longer u = ap (λ r. ulm_at u.core r u.out u.halted) (append-nil u.rest)
-
 pub extended : (marks : List Bool) (cells i : List ℕ) (c : Bool) (j : List ℕ) (d : Bool) (n : ℕ) (v : Ulm) → Goes marks c (first_ulm cells i) n v → (x : Extends i c j d) →
     Goes marks d (first_ulm cells j) n (longer v x.0)
-extended marks cells i c j d n v g x = go x.2
-  where
-    open-case : c ≡ false → Goes marks d (first_ulm cells (i ++ x.0)) n (longer v x.0)
-    open-case e = more_goes d x.0 (subst (λ b. Goes marks b (first_ulm cells i) n v) e g)
-
-    go : (c ≡ false) ⊎ ((c ≡ d) × (x.0 ≡ [])) → Goes marks d (first_ulm cells j) n (longer v x.0)
-    go (inl e) = subst (λ z. Goes marks d (first_ulm cells z) n (longer v x.0)) x.1 (open-case e)
-    go (inr p) =
-        subst (λ z. Goes marks d (first_ulm cells z) n (longer v x.0)) (sym (append-nil i) ∙ ap (λ f. i ++ f) (sym p.1) ∙ x.1)
-        (subst (λ z. Goes marks d (first_ulm cells i) n z) (sym (ap (longer v) p.1 ∙ no_longer v))
-        (subst (λ b. Goes marks b (first_ulm cells i) n v) p.0 g))
+extended marks cells i c j d n v g (f, e, inl o) = rw (← e) (more_goes d f (rw o at g))
+extended marks cells i c j d n v g (f, e, inr p) = rw (← p.0, ← e, p.1, append-nil i, append-nil v.rest) g

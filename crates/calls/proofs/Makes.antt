@@ -1,193 +1,92 @@
 -- One call of a list, from what the console and the run promise.
-use Rattle.std.proofs.Common.{◌≡◌, ℕ, ◌+◌, ◌-◌, ◌≤◌, min, Bool, List, ◌++◌, length, take, drop, sym, refl, ap, ◌∙◌, subst, append_assoc, arith, length-append, length-drop, take-append-drop, length-take, length-take-le, take_at, drop_at}
-use borrow.Rule.Slice.PartMut.{put_mid}
+use Rattle.std.proofs.Common.{◌≡◌, ℕ, ◌+◌, ◌-◌, ◌≤◌, min, Bool, List, ◌++◌, length, take, drop, sym, refl, ap, ◌∙◌, append_assoc, arith, length-drop, take-append-drop, length-take}
+use Rattle.std.proofs.lemmas.List.{drop-drop, drop-append-le}
+use Rattle.std.proofs.lemmas.List.Edits.{length-paste, take-paste, drop-paste}
+use Rattle.std.proofs.Math.Seq.{paste}
 use Rattle.console.specs.Streams.{Con, take_says, after_take}
-use Rattle.machine.specs.Steps.{live, over}
-use Rattle.calls.specs.Calls.{ask_of, ran, took, refused, passed, reply_of, after_run, Called, RunCalled, made, turned_down, passed_over, ended_by, after_taking, taken_now}
+use Rattle.calls.specs.Calls.{ask_of, ran, refused, RunCalled, made, turned_down}
 use Rattle.job.specs.Refusals.{number}
-use Rattle.job.specs.Runs.{Runs, StopsShort}
-use Rattle.job.specs.Jobs.{Accepted, TurnedDown, state_of_paused, state_of, why_of, count_of, stop_of}
-use Rattle.job.specs.declared.Ran.{Ran}
+use Rattle.job.specs.Jobs.{Accepted, TurnedDown, state_of_paused, why_of}
 use Rattle.job.specs.declared.Refused.{Refused}
-use Rattle.memory.specs.Slices.{Loans}
-use Rattle.calls.specs.Posts.{stand_of, place_of, flags_of, steps_of, ended_of, halted_of, Scene, scene, stand_in, RanOn, MadeSo}
-use Rattle.machine.specs.Tryings.{core_of}
-use Rattle.machine.specs.declared.ending.Ending.{Ending}
+use Rattle.calls.specs.Posts.{stand_of, Scene, scene, TookSo, MadeSo}
 use Rattle.job.specs.declared.Stop.{Stop}
-use Rattle.job.specs.declared.Stop.TheVariants as stop
-use Rattle.job.specs.declared.Reason.{Reason}
 use Rattle.job.specs.declared.Reason.TheVariants as reason
 use Rattle.job.specs.declared.Paused.{Paused}
-use Rattle.job.specs.declared.Ended.{Ended}
 use Rattle.job.specs.declared.Outcome.{Outcome}
 use Rattle.job.specs.declared.Outcome.TheVariants as outcome
 use Rattle.calls.specs.declared.Job.{Job}
 use Rattle.calls.specs.declared.Job.TheVariants as job
-use Rattle.calls.specs.declared.Answer.{Answer}
 use Rattle.calls.specs.declared.Answer.TheVariants as answer
 use Rattle.calls.specs.declared.Call.{Call}
 use Rattle.calls.specs.declared.Call.TheVariants as call
 
-paused_live : (r : Reason) → live ≡ ended_by (stop_of r)
-paused_live reason.Spent = refl
-paused_live reason.Waiting = refl
-paused_live reason.Full = refl
+abbrev pub job_of : Outcome → Job
+job_of (outcome.Paused p why) = job.Paused p
+job_of (outcome.Ended d) = job.Ended d
 
-module _ (marks : List Bool) (budget : ℕ) (j : Job) (regs cells : List ℕ) (k : Con) where
-  -- an ended job is passed over
-  pub run_passed : (d : Ended) → j ≡ job.Ended d → RanOn marks budget j regs cells k (job.Ended d) regs cells k answer.Passed
-  run_passed d ej taken room =
-      subst (λ q. RunCalled marks budget (stand_of q regs cells k taken room) (stand_of (job.Ended d) regs cells k taken room) passed) (sym ej)
-      (passed_over d.ending refl refl)
+-- a run of a paused job that was made, and one that was refused
+module _ (marks : List Bool) (p : Paused) (budget : ℕ) (regs cells : List ℕ) (k : Con) (regs' cells' : List ℕ) (k' : Con) where
+  made_so : (steps : ℕ) (o : Outcome) → Accepted marks p (state_of_paused p regs cells k) budget regs' cells' k' (record { steps = steps; outcome = o }) →
+      (taken : List ℕ) (room : ℕ) →
+      RunCalled marks budget (stand_of (job.Paused p) regs cells k taken room) (stand_of (job_of o) regs' cells' k' taken room) (ran steps (why_of o))
+  made_so steps (outcome.Paused q reason.Spent) a taken room = made refl a.allowed a.runs a.short (rw a.counted)
+  made_so steps (outcome.Paused q reason.Waiting) a taken room = made refl a.allowed a.runs a.short (rw a.counted)
+  made_so steps (outcome.Paused q reason.Full) a taken room = made refl a.allowed a.runs a.short (rw a.counted)
+  made_so steps (outcome.Ended d) a taken room = made refl a.allowed a.runs a.short (rw a.counted)
 
-  module _ (p : Paused) (ej : j ≡ job.Paused p) (regs' cells' : List ℕ) (k' : Con) where
-    -- a run that was made, from what it left
-    ran-so : (i : Job) (r : Ran) (o : Outcome) → Accepted marks p (state_of_paused p regs cells k) budget regs' cells' k' r → r.outcome ≡ o →
-        (taken : List ℕ) (room : ℕ) → (stand_of i regs' cells' k' taken room).state ≡ state_of o regs' cells' k' →
-        stand_of i regs' cells' k' taken room ≡ after_run (stand_of (job.Paused p) regs cells k taken room) (stand_of i regs' cells' k' taken room).state r.steps (why_of o) →
-        RunCalled marks budget (stand_of j regs cells k taken room) (stand_of i regs' cells' k' taken room) (ran r.steps (why_of o))
-    ran-so i r o acc eo taken room es et =
-        subst (λ q. RunCalled marks budget (stand_of q regs cells k taken room) (stand_of i regs' cells' k' taken room) (ran r.steps (why_of o))) (sym ej)
-        (made refl acc.allowed
-        (subst (λ z. Runs marks budget (state_of_paused p regs cells k) z r.steps (why_of o)) (sym es)
-        (subst (λ o. Runs marks budget (state_of_paused p regs cells k) (state_of o regs' cells' k') r.steps (why_of o)) eo acc.runs))
-        (subst (λ z. StopsShort marks budget (state_of_paused p regs cells k) z r.steps (why_of o)) (sym es)
-        (subst (λ o. StopsShort marks budget (state_of_paused p regs cells k) (state_of o regs' cells' k') r.steps (why_of o)) eo acc.short))
-        et)
+  pub ran_so : (steps : ℕ) (o o' : Outcome) (w : Stop) → Accepted marks p (state_of_paused p regs cells k) budget regs' cells' k' (record { steps = steps; outcome = o }) →
+      o ≡ o' → w ≡ why_of o' → (taken : List ℕ) (room : ℕ) →
+      RunCalled marks budget (stand_of (job.Paused p) regs cells k taken room) (stand_of (job_of o') regs' cells' k' taken room) (ran steps w)
+  ran_so steps o o' w a e told taken room = rw told (made_so steps o' (rw e at a) taken room)
 
-    pub run-paused : (r : Ran) (q : Paused) (why : Reason) (w : Stop) →
-        Accepted marks p (state_of_paused p regs cells k) budget regs' cells' k' r → r.outcome ≡ outcome.Paused q why → w ≡ stop_of why →
-        RanOn marks budget j regs cells k (job.Paused q) regs' cells' k' (answer.Ran r.steps w)
-    run-paused r q why w acc eo ew taken room =
-        subst (λ w. RunCalled marks budget (stand_of j regs cells k taken room) (stand_of (job.Paused q) regs' cells' k' taken room) (ran r.steps w)) (sym ew)
-        (ran-so (job.Paused q) r (outcome.Paused q why) acc eo taken room refl
-        (λ i. record {
-          state = state_of_paused q regs' cells' k';
-          count = (sym (ap count_of eo) ∙ acc.counted) i;
-          ended = paused_live why i;
-          taken = taken;
-          room = room;
-        }))
+  pub refused_so : (r : Refused) → TurnedDown p (state_of_paused p regs cells k) budget regs' cells' k' r → (taken : List ℕ) (room : ℕ) →
+      RunCalled marks budget (stand_of (job.Paused p) regs cells k taken room) (stand_of (job.Paused r.job) regs' cells' k' taken room) (refused (number r.refusal))
+  refused_so r d taken room = rw d.told (turned_down refl d.too_much cc)
 
-    pub run-ended : (r : Ran) (d : Ended) (e : Ending) →
-        Accepted marks p (state_of_paused p regs cells k) budget regs' cells' k' r → r.outcome ≡ outcome.Ended d → e ≡ d.ending →
-        RanOn marks budget j regs cells k (job.Ended d) regs' cells' k' (answer.Ran r.steps (stop.Finished e))
-    run-ended r d e acc eo ee taken room =
-        subst (λ e. RunCalled marks budget (stand_of j regs cells k taken room) (stand_of (job.Ended d) regs' cells' k' taken room) (ran r.steps (stop.Finished e))) (sym ee)
-        (ran-so (job.Ended d) r (outcome.Ended d) acc eo taken room refl
-        (λ i. record {
-          state = state_of (outcome.Ended d) regs' cells' k';
-          count = (sym (ap count_of eo) ∙ acc.counted) i;
-          ended = over d.ending;
-          taken = taken;
-          room = room;
-        }))
-
-    pub run-refused : (r : Refused) → TurnedDown p (state_of_paused p regs cells k) budget regs' cells' k' r →
-        RanOn marks budget j regs cells k (job.Paused r.job) regs' cells' k' (answer.Refused r.refusal)
-    run-refused r no_run taken room =
-        subst (λ q. RunCalled marks budget (stand_of q regs cells k taken room) (stand_of (job.Paused r.job) regs' cells' k' taken room) (refused (number r.refusal))) (sym ej)
-        (subst (λ n. RunCalled marks budget (stand_of (job.Paused p) regs cells k taken room) (stand_of (job.Paused r.job) regs' cells' k' taken room) (refused n)) (sym no_run.told)
-        (turned_down refl no_run.too_much
-        (ap (λ z. stand_of (job.Paused z) regs' cells' k' taken room) no_run.back ∙
-        (λ i. record { state = no_run.kept i; count = p.at.count; ended = live; taken = taken; room = room }))))
-
--- a run takes nothing
-pub run_made : (s : Scene) (filled : ℕ) → filled ≤ length s.buffer → (c : Call) (j : Job) (budget : ℕ) (m : List Bool) (l : Loans) (cells : List ℕ) (k : Con) (regs : List ℕ) (i : Job) (a : Answer) →
-    c ≡ call.Run budget → m ≡ s.marks → l ≡ s.loans → RanOn s.marks budget j s.regs s.cells s.con i regs cells k a →
-    MadeSo s j filled (ask_of c) (scene m l cells k regs s.buffer) i a filled
-run_made s filled fit c j budget m l cells k regs i a ec em el d = record {
-  marks = em;
-  loans = el;
-  called = subst (λ q. Called s.marks (ask_of q) (stand_in s j filled) (stand_in (scene m l cells k regs s.buffer) i filled) (reply_of a)) (sym ec) (d _ _);
-  filled_up = (omega arith, fit);
-  beyond = refl;
-  size = refl;
+-- a take, from what the console promises of the part of the buffer that it fills: the held bytes are put over the buffer's
+pub took_so : (buffer : List ℕ) (filled n room width k : ℕ) (con con' : Con) (into : List ℕ) → filled ≤ length buffer →
+    room ≡ min n (length buffer - filled) → width ≡ room →
+    k ≡ take_says con (length (take width (drop filled buffer))) → con' ≡ after_take con k →
+    into ≡ take k con.held ++ drop k (take width (drop filled buffer)) →
+    TookSo con buffer filled n con' (take filled buffer ++ (into ++ drop width (drop filled buffer))) (filled + k) k
+took_so buffer filled n room width k con con' into fit er ew ek econ einto = record {
+  least = ek ∙ ap (take_says con) (width_is ∙ ew ∙ er);
+  after = econ;
+  filled_up = refl;
+  within = rw pasted (omega (arith, room_left, length-paste buffer filled con.held k room_left held));
+  front = rw pasted (take-paste buffer filled con.held k fit held);
+  beyond = rw pasted (drop-paste buffer filled con.held k fit held);
+  size = rw pasted (length-paste buffer filled con.held k room_left held);
 }
-
--- a buffer in three parts, the middle one begun anew
-module _ (a m p h : List ℕ) (k : ℕ) (km : k ≤ length m) (kh : k ≤ length h) where
-  regroup : (t : List ℕ) → a ++ ((t ++ drop k m) ++ p) ≡ (a ++ t) ++ (drop k m ++ p)
-  regroup t = simp append_assoc
-
-  as_was : a ++ (m ++ p) ≡ (a ++ take k m) ++ (drop k m ++ p)
-  as_was = ap (λ z. a ++ (z ++ p)) (sym (take-append-drop k m)) ∙ regroup (take k m)
-
-  front_length : (t : List ℕ) (n : ℕ) → k ≤ length t → n ≡ length a + k → length (a ++ take k t) ≡ n
-  front_length t n kt e = length-append a (take k t) ∙ ap (λ z. length a + z) (length-take-le k t kt) ∙ sym e
-
-  new_front : (n : ℕ) → n ≡ length a + k → take n (a ++ ((take k h ++ drop k m) ++ p)) ≡ a ++ take k h
-  new_front n e = ap (take n) (regroup (take k h)) ∙ take_at (a ++ take k h) (drop k m ++ p) n (front_length h n kh e)
-
-  old_back : (n : ℕ) → n ≡ length a + k → drop n (a ++ ((take k h ++ drop k m) ++ p)) ≡ drop n (a ++ (m ++ p))
-  old_back n e =
-      ap (drop n) (regroup (take k h)) ∙ drop_at (a ++ take k h) (drop k m ++ p) n (front_length h n kh e) ∙
-      sym (ap (drop n) as_was ∙ drop_at (a ++ take k m) (drop k m ++ p) n (front_length m n km e))
-
-  same_size : length (a ++ ((take k h ++ drop k m) ++ p)) ≡ length (a ++ (m ++ p))
-  same_size = simp (length-append, length-take, length-drop) (omega arith)
-
-taken_stand : (s : Scene) (j : Job) (filled k : ℕ) (b : List ℕ) →
-    take (filled + k) b ≡ take filled s.buffer ++ take k s.con.held → length b ≡ length s.buffer →
-    stand_of j s.regs s.cells (after_take s.con k) (take (filled + k) b) (length b - (filled + k)) ≡ after_taking (stand_in s j filled) k
-taken_stand s j filled k b t l = λ i. record {
-  state = record { core = core_of s.regs (flags_of j) (place_of j) s.cells; con = after_take s.con k; halted = halted_of j };
-  count = steps_of j;
-  ended = ended_of j;
-  taken = t i;
-  room = (let r : length b - (filled + k) ≡ (length s.buffer - filled) - k = omega arith in r i);
-}
-
-pub took_so : (s : Scene) (filled : ℕ) → filled ≤ length s.buffer → (c : Call) (j : Job) (n room width k : ℕ) (con : Con) (into : List ℕ) →
-    c ≡ call.Take n → room ≡ min n (length s.buffer - filled) → width ≡ room →
-    k ≡ take_says s.con (length (take width (drop filled s.buffer))) → con ≡ after_take s.con k →
-    into ≡ take k s.con.held ++ drop k (take width (drop filled s.buffer)) →
-    MadeSo s j filled (ask_of c) (scene s.marks s.loans s.cells con s.regs (put_mid filled width s.buffer into)) j (answer.Took k) (filled + k)
-took_so s filled fit c j n room width k con into ec er ew ek econ einto =
-    subst (λ c. MadeSo s j filled (ask_of c) (scene s.marks s.loans s.cells con s.regs (put_mid filled width s.buffer into)) j (answer.Took k) (filled + k)) (sym ec)
-    (subst (λ con. MadeSo s j filled (ask_of (call.Take n)) (scene s.marks s.loans s.cells con s.regs (put_mid filled width s.buffer into)) j (answer.Took k) (filled + k)) (sym econ)
-    (subst (λ into. MadeSo s j filled (ask_of (call.Take n)) (scene s.marks s.loans s.cells (after_take s.con k) s.regs (put_mid filled width s.buffer into)) j (answer.Took k) (filled + k)) (sym einto)
-    made))
   where
-    a : List ℕ
-    a = take filled s.buffer
+    width_is : length (take width (drop filled buffer)) ≡ width
+    width_is = simp (length-take, length-drop) (omega arith)
 
-    m : List ℕ
-    m = take width (drop filled s.buffer)
+    held : k ≤ length con.held
+    held = omega arith
 
-    p : List ℕ
-    p = drop width (drop filled s.buffer)
+    room_left : filled + k ≤ length buffer
+    room_left = omega (arith, width_is)
 
-    h : List ℕ
-    h = s.con.held
+    left : drop k (take width (drop filled buffer)) ++ drop width (drop filled buffer) ≡ drop (filled + k) buffer
+    left =
+        sym (drop-append-le k (take width (drop filled buffer)) (drop width (drop filled buffer)) (omega (arith, width_is))) ∙
+        ap (drop k) (take-append-drop width (drop filled buffer)) ∙ drop-drop k filled buffer
 
-    whole : a ++ (m ++ p) ≡ s.buffer
-    whole = ap (λ z. a ++ z) (take-append-drop width (drop filled s.buffer)) ∙ take-append-drop filled s.buffer
+    pasted : take filled buffer ++ (into ++ drop width (drop filled buffer)) ≡ paste buffer filled con.held k
+    pasted = simp (einto, append_assoc, left)
 
-    a-length : length a ≡ filled
-    a-length = length-take-le filled s.buffer fit
-
-    m-length : length m ≡ width
-    m-length = simp (length-take, length-drop) (omega arith)
-
-    k-is : k ≡ taken_now (stand_in s j filled) n
-    k-is = ek ∙ ap (take_says s.con) (m-length ∙ ew ∙ er)
-
-    km : k ≤ length m
-    km = omega arith
-
-    kh : k ≤ length h
-    kh = omega arith
-
-    made : MadeSo s j filled (ask_of (call.Take n)) (scene s.marks s.loans s.cells (after_take s.con k) s.regs (put_mid filled width s.buffer (take k h ++ drop k m))) j (answer.Took k) (filled + k)
-    made = record {
+-- such a take as a call of the list
+pub took_made : (s : Scene) (filled : ℕ) (c : Call) (j : Job) (n k : ℕ) (con : Con) (buffer : List ℕ) (upto : ℕ) →
+    c ≡ call.Take n → TookSo s.con s.buffer filled n con buffer upto k →
+    MadeSo s j filled (ask_of c) (scene s.marks s.loans s.cells con s.regs buffer) j (answer.Took k) upto
+took_made s filled c j n k con buffer upto ec d =
+    let room : length buffer - upto ≡ (length s.buffer - filled) - k = omega (arith, d.size, d.filled_up, d.within) in
+    record {
       marks = refl;
       loans = refl;
-      called = (
-        taken_stand s j filled k _ (new_front a m p h k km kh (filled + k) (omega (arith, a-length))) (same_size a m p h k km kh ∙ ap length whole) ∙ ap (after_taking (stand_in s j filled)) k-is,
-        ap took k-is,
-      );
-      filled_up = (omega arith, omega (arith, same_size a m p h k km kh, ap length whole, km, m-length));
-      beyond = old_back a m p h k km kh (filled + k) (omega (arith, a-length)) ∙ ap (drop (filled + k)) whole;
-      size = same_size a m p h k km kh ∙ ap length whole;
+      called = rw (ec, ← d.least) (cc, refl);
+      filled_up = (omega (arith, d.filled_up), d.within);
+      beyond = d.beyond;
+      size = d.size;
     }

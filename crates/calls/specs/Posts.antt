@@ -1,13 +1,15 @@
 -- The contract of a list of calls, over meanings and results.
 -- Assumes nothing.
-use Rattle.std.specs.Prelude.{◌≡◌, ℕ, ◌-◌, ◌≤◌, Bool, List, length, take, drop, Some, None, Ok, Err, vec_items, Option, Result}
-use Rattle.console.specs.Streams.{Con}
+use Rattle.std.specs.Prelude.{◌≡◌, ℕ, ◌+◌, ◌-◌, ◌≤◌, min, Bool, List, ◌++◌, length, take, drop, Some, None, Ok, Err, vec_items, Option, Result}
+use Rattle.console.specs.Streams.{Con, take_says, after_take}
 use Rattle.machine.specs.Steps.{Life, live, over}
 use Rattle.job.specs.Jobs.{halted_by}
 use Rattle.job.specs.declared.Numbers.{Numbers}
 use Rattle.arith.specs.declared.flags.Flags.{Flags}
 use Rattle.memory.specs.Slices.{Loans}
-use Rattle.machine.specs.Tryings.{core_of}
+use Rattle.machine.specs.Cores.{core_of}
+use Rattle.machine.specs.Parts.{Parts}
+use Rattle.machine.specs.declared.parts.Machine.{Machine}
 use Rattle.calls.specs.Calls.{Ask, Stand, RunCalled, Called, Listed, first_stand, reply_of, replies_of}
 use Rattle.calls.specs.Laws.{Mirrors, LikeAnyOther, BudgetsKept, OnlyList}
 use Rattle.machine.specs.declared.ending.Ending.{Ending}
@@ -67,13 +69,29 @@ pub record Scene : Type 0 where
 abbrev pub scene : List Bool → Loans → List ℕ → Con → List ℕ → List ℕ → Scene
 scene m l c k r b = record { marks = m; loans = l; cells = c; con = k; regs = r; buffer = b }
 
+-- that of a machine and a buffer
+abbrev pub scene_on : {M C : Type 0} → (M → List Bool) → (M → Loans) → (M → List ℕ) → (C → Con) → Machine M C → List ℕ → Scene
+scene_on marks loans cells view m buffer =
+    scene (marks m.memory.now) (loans m.memory.now) (cells m.memory.now) (view m.console.now) m.bank.now.regs buffer
+
 abbrev pub stand_in : Scene → Job → ℕ → Stand
 stand_in s j filled = stand_of j s.regs s.cells s.con (take filled s.buffer) (length s.buffer - filled)
 
 -- what a run of the list promises, whatever was taken and however much room is left
-abbrev pub RanOn : List Bool → ℕ → Job → List ℕ → List ℕ → Con → Job → List ℕ → List ℕ → Con → Answer → Type 0
-RanOn marks budget j regs cells k i regs' cells' k' a =
-    (taken : List ℕ) (room : ℕ) → RunCalled marks budget (stand_of j regs cells k taken room) (stand_of i regs' cells' k' taken room) (reply_of a)
+abbrev pub RanOn : Parts → ℕ → Job → Parts → Job → Answer → Type 0
+RanOn s budget j t i a =
+    (taken : List ℕ) (room : ℕ) →
+    RunCalled s.marks budget (stand_of j s.regs s.cells s.con taken room) (stand_of i t.regs t.cells t.con taken room) (reply_of a)
+
+-- what a take promises of a console, a buffer, and how much of it is filled; n bytes are asked for and moved are moved
+pub record TookSo (k : Con) (buffer : List ℕ) (filled n : ℕ) (k' : Con) (buffer' : List ℕ) (filled' moved : ℕ) : Type 0 where
+  pub least : moved ≡ take_says k (min n (length buffer - filled))
+  pub after : k' ≡ after_take k moved
+  pub filled_up : filled' ≡ filled + moved
+  pub within : filled' ≤ length buffer'
+  pub front : take filled' buffer' ≡ take filled buffer ++ take moved k.held
+  pub beyond : drop filled' buffer' ≡ drop filled' buffer
+  pub size : length buffer' ≡ length buffer
 
 -- what one call of the list promises: i, a and upto are the job, the answer and the bytes taken that it leaves
 pub record MadeSo (s : Scene) (j : Job) (filled : ℕ) (c : Ask) (t : Scene) (i : Job) (a : Answer) (upto : ℕ) : Type 0 where

@@ -3,19 +3,19 @@
 
 ghost use Rattle.std.specs.Prelude.{◌≡◌, ◌≤◌, length};
 ghost use Rattle.console.specs.Refusals.{numbered};
-ghost use Rattle.job.specs.Jobs.{stop_of};
 ghost use Rattle.calls.specs.Calls.{ask_of, asks_of, replied, reply_of};
-ghost use Rattle.calls.specs.Posts.{scene, numbers_of, ending_of, RanOn, MadeSo, PerformSo};
+ghost use Rattle.calls.specs.Posts.{scene_on, numbers_of, ending_of, RanOn, TookSo, MadeSo, PerformSo};
+ghost use Rattle.machine.specs.Parts.{parts, KeepsParts};
 
 use console::Console;
-use job::{Ended, Numbers, Outcome, Paused, Ran, Reason, Refusal, Refused, Stop};
-use machine::bank::Bank;
+use job::{Ended, Numbers, Outcome, Paused, Ran, Refusal, Refused, Stop};
 use machine::ending::Ending;
+use machine::parts::Machine;
 use memory::cells::Memory;
 use std::alloc::{AllocError, Global};
 
 // A call on a job or its console.
-#[derive(Clone, Copy)]
+#[derive(Clone, Copy, PartialEq, Eq, Debug)]
 pub enum Call<'a> {
     Feed(&'a [u8]),
     Close,
@@ -26,7 +26,7 @@ pub enum Call<'a> {
 }
 
 // What a call answers.
-#[derive(Clone, Copy)]
+#[derive(Clone, Copy, PartialEq, Eq, Debug)]
 pub enum Answer {
     Fed,
     Closed,
@@ -39,7 +39,7 @@ pub enum Answer {
     Passed,
 }
 
-// A job as it is between two calls.
+// A job as it is between two calls. The outcome of a run has a reason too, which a new job does not have.
 pub enum Job {
     Paused(Paused),
     Ended(Ended),
@@ -59,6 +59,33 @@ impl Job {
             }
         }
     }
+
+    // Runs a paused job; passes over an ended one.
+    fn run<M: Memory, C: Console>(
+        self,
+        machine: &mut Machine<'_, '_, '_, M, C>,
+        budget: u64,
+    ) -> (Job, Answer)
+        ensures kept { KeepsParts M.marks M.loans machine.old machine.new }
+        ensures ran { RanOn (parts M.marks M.loans M.cells C.view machine.old) budget self (parts M.marks M.loans M.cells C.view machine.new) result.0 result.1 }
+    {
+        let paused = match self {
+            Job::Paused(paused) => paused,
+            Job::Ended(ended) => return (Job::Ended(ended), Answer::Passed),
+        };
+        match paused.run(machine, budget) {
+            Ok(Ran { steps, outcome }) => match outcome {
+                Outcome::Paused(next, reason) => {
+                    (Job::Paused(next), Answer::Ran(steps, Stop::from(reason)))
+                }
+                Outcome::Ended(ended) => {
+                    let stop = Stop::Finished(ended.ending());
+                    (Job::Ended(ended), Answer::Ran(steps, stop))
+                }
+            },
+            Err(Refused { refusal, job }) => (Job::Paused(job), Answer::Refused(refusal)),
+        }
+    }
 }
 
 // What a list of calls leaves: the job, what each call answered, and how many bytes were taken.
@@ -71,80 +98,52 @@ pub struct Performed {
 fn told(answer: Answer, said: Result<(), console::Refusal>) -> Answer
     ensures { reply_of result ≡ replied (reply_of answer) (numbered said) }
 {
-    match said {
-        Ok(()) => answer,
-        Err(refusal) => Answer::Refused(Refusal::Console(refusal)),
+    said.map_or_else(
+        |refusal| Answer::Refused(Refusal::Console(refusal)),
+        |_| answer,
+    )
+}
+
+// Where takes put their bytes: a lent buffer, of which so many bytes are filled. That they are within the buffer is said
+// at each call: a ghost field beside the `&mut` would hide from the lender what the buffer holds.
+#[derive(Drop)]
+struct Takings<'a> {
+    buffer: &'a mut [u8],
+    filled: usize,
+}
+
+impl Takings<'_> {
+    // Takes bytes from a console, at most so many and as the rest of the buffer has room for, and answers how many.
+    fn take<C: Console>(&mut self, console: &mut C, most: usize) -> usize
+        requires { self.old.filled ≤ length self.old.buffer.now }
+        ensures lent { self.new.buffer.ghost_name ≡ self.old.buffer.ghost_name }
+        ensures taken { TookSo (C.view console.old) self.old.buffer.now self.old.filled most (C.view console.new) self.new.buffer.now self.new.filled result }
+    {
+        let room = most.min(self.buffer.len() - self.filled);
+        let end = self.filled + room;
+        let moved = console.take(&mut self.buffer[self.filled..end]);
+        self.filled += moved;
+        moved
     }
 }
 
-fn why_stopped(reason: Reason) -> Stop
-    ensures { result ≡ stop_of reason }
-{
-    match reason {
-        Reason::Spent => Stop::Spent,
-        Reason::Waiting => Stop::Waiting,
-        Reason::Full => Stop::Full,
-    }
-}
-
-// Runs a paused job; passes over an ended one.
-fn run_or_pass<M: Memory, C: Console>(
-    job: Job,
-    bank: &mut Bank,
-    memory: &mut M,
-    console: &mut C,
-    budget: u64,
-) -> (Job, Answer)
-    ensures marks { M.marks memory.new ≡ M.marks memory.old }
-    ensures loans { M.loans memory.new ≡ M.loans memory.old }
-    ensures ran { RanOn (M.marks memory.old) budget job bank.old.regs (M.cells memory.old) (C.view console.old) result.0 bank.new.regs (M.cells memory.new) (C.view console.new) result.1 }
-{
-    let paused = match job {
-        Job::Paused(paused) => paused,
-        Job::Ended(ended) => return (Job::Ended(ended), Answer::Passed),
-    };
-    match paused.run(bank, memory, console, budget) {
-        Ok(Ran { steps, outcome }) => match outcome {
-            Outcome::Paused(next, reason) => {
-                (Job::Paused(next), Answer::Ran(steps, why_stopped(reason)))
-            }
-            Outcome::Ended(ended) => {
-                let ending = ended.ending();
-                (
-                    Job::Ended(ended),
-                    Answer::Ran(steps, Stop::Finished(ending)),
-                )
-            }
-        },
-        Err(Refused { refusal, job: back }) => (Job::Paused(back), Answer::Refused(refusal)),
-    }
-}
-
-// Makes one call of a list; so much of the buffer is filled.
+// Makes one call of a list. A call is a value, told to the caller by its answer, so it is no closure.
 fn make<M: Memory, C: Console>(
     job: Job,
-    bank: &mut Bank,
-    memory: &mut M,
-    console: &mut C,
+    machine: &mut Machine<'_, '_, '_, M, C>,
     call: &Call<'_>,
-    taken: &mut [u8],
-    filled: &mut usize,
+    takings: &mut Takings<'_>,
 ) -> (Job, Answer)
-    requires { filled.old ≤ length taken.old }
-    ensures { MadeSo (scene (M.marks memory.old) (M.loans memory.old) (M.cells memory.old) (C.view console.old) bank.old.regs taken.old) job filled.old (ask_of call.now) (scene (M.marks memory.new) (M.loans memory.new) (M.cells memory.new) (C.view console.new) bank.new.regs taken.new) result.0 result.1 filled.new }
+    requires { takings.old.filled ≤ length takings.old.buffer.now }
+    ensures kept { KeepsParts M.marks M.loans machine.old machine.new }
+    ensures lent { takings.new.buffer.ghost_name ≡ takings.old.buffer.ghost_name }
+    ensures made { MadeSo (scene_on M.marks M.loans M.cells C.view machine.old takings.old.buffer.now) job takings.old.filled (ask_of call.now) (scene_on M.marks M.loans M.cells C.view machine.new takings.new.buffer.now) result.0 result.1 takings.new.filled }
 {
     match call {
-        Call::Feed(bytes) => (job, told(Answer::Fed, console.feed(bytes))),
-        Call::Close => (job, told(Answer::Closed, console.close())),
-        Call::Run(budget) => run_or_pass(job, bank, memory, console, *budget),
-        Call::Take(most) => {
-            let start = *filled;
-            let left = taken.len() - start;
-            let room = if *most < left { *most } else { left };
-            let moved = console.take(&mut taken[start..start + room]);
-            *filled = start + moved;
-            (job, Answer::Took(moved))
-        }
+        Call::Feed(bytes) => (job, told(Answer::Fed, machine.console.feed(bytes))),
+        Call::Close => (job, told(Answer::Closed, machine.console.close())),
+        Call::Run(budget) => job.run(machine, *budget),
+        Call::Take(most) => (job, Answer::Took(takings.take(machine.console, *most))),
     }
 }
 
@@ -152,25 +151,27 @@ fn make<M: Memory, C: Console>(
 // The answers get their room first, so that want of memory is told before anything changes.
 pub fn perform<M: Memory, C: Console>(
     heap: Global,
-    bank: &mut Bank,
-    memory: &mut M,
-    console: &mut C,
+    machine: &mut Machine<'_, '_, '_, M, C>,
     calls: &[Call<'_>],
     taken: &mut [u8],
 ) -> Result<Performed, AllocError>
-    ensures { PerformSo (scene (M.marks memory.old) (M.loans memory.old) (M.cells memory.old) (C.view console.old) bank.old.regs taken.old) (asks_of calls.now) (scene (M.marks memory.new) (M.loans memory.new) (M.cells memory.new) (C.view console.new) bank.new.regs taken.new) result }
+    ensures kept { KeepsParts M.marks M.loans machine.old machine.new }
+    ensures performed { PerformSo (scene_on M.marks M.loans M.cells C.view machine.old taken.old) (asks_of calls.now) (scene_on M.marks M.loans M.cells C.view machine.new taken.new) result }
 {
     let mut answers = Vec::with_capacity(heap, calls.len())?;
-    let mut job = Job::Paused(Paused::new(bank));
-    let mut filled = 0;
+    let mut job = Job::Paused(Paused::new(machine.bank));
+    let mut takings = Takings {
+        buffer: taken,
+        filled: 0,
+    };
     for call in calls {
-        let (next, answer) = make(job, bank, memory, console, call, taken, &mut filled);
+        let (next, answer) = make(job, machine, call, &mut takings);
         job = next;
         let _ = answers.push(answer);
     }
     Ok(Performed {
         job,
         answers,
-        taken: filled,
+        taken: takings.filled,
     })
 }

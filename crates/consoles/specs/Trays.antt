@@ -2,12 +2,11 @@
 -- Assumes nothing.
 use Rattle.std.specs.Prelude.{ℕ, false, cond, []}
 use Rattle.console.specs.Streams.{Con}
-use Rattle.ring.specs.Queues.{items, size}
 use Rattle.consoles.specs.declared.tray.Tray.{Tray}
 use Rattle.consoles.specs.Limits.{fit}
 
 abbrev pub tray_view : Tray → Con
-tray_view t = record { waiting = items t.input; closed = t.closed; held = items t.output; in_limit = size t.input; out_limit = size t.output }
+tray_view t = record { waiting = t.input.items; closed = t.closed; held = t.output.items; in_limit = t.input.size; out_limit = t.output.size }
 
 -- over buffers of m and n bytes: open and empty; both count as empty where one is too long
 abbrev pub new_tray : ℕ → ℕ → Con

@@ -2,14 +2,15 @@
 ghost use Rattle.std.specs.Prelude.{◌≡◌, length};
 ghost use Rattle.consoles.specs.Pages.{page_view, new_page};
 
-use crate::limits::fits;
+use crate::limits::usable;
 use console::{Console, Full, ReadAnswer, Refusal};
 use ring::Ring;
 
+// What is left of the document waits; the whole is kept for its length, the input limit.
 #[derive(Drop)]
 pub struct Page<'d, 'o> {
     document: &'d [u8],
-    at: usize,
+    waiting: &'d [u8],
     output: Ring<'o>,
 }
 
@@ -19,18 +20,12 @@ impl<'d, 'o> Page<'d, 'o> {
     pub fn new(document: &'d [u8], output: &'o mut [u8]) -> Page<'d, 'o>
         ensures { page_view result ≡ new_page document.now (length output.old) }
     {
-        if fits(document.len(), output.len()) {
-            Page {
-                document,
-                at: 0,
-                output: Ring::new(output),
-            }
-        } else {
-            Page {
-                document: &document[0..0],
-                at: 0,
-                output: Ring::new(&mut output[0..0]),
-            }
+        let (most_in, most_out) = usable(document.len(), output.len());
+        let document = &document[..most_in];
+        Page {
+            document,
+            waiting: document,
+            output: Ring::new(&mut output[..most_out]),
         }
     }
 }
@@ -39,20 +34,15 @@ impl Console for Page<'_, '_> {
     ghost view = { λ p. page_view p };
 
     fn read(&mut self) -> ReadAnswer {
-        if self.at >= self.document.len() {
+        let Some((&byte, rest)) = self.waiting.split_first() else {
             return ReadAnswer::End;
-        }
-        let byte = self.document[self.at];
-        self.at += 1;
+        };
+        self.waiting = rest;
         ReadAnswer::Byte(byte)
     }
 
     fn put(&mut self, byte: u8) -> Result<(), Full> {
-        if self.output.push(byte) {
-            Ok(())
-        } else {
-            Err(Full)
-        }
+        self.output.push(byte).map_err(|_| Full)
     }
 
     fn feed(&mut self, _bytes: &[u8]) -> Result<(), Refusal> {

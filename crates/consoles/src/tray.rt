@@ -2,7 +2,7 @@
 ghost use Rattle.std.specs.Prelude.{◌≡◌, length};
 ghost use Rattle.consoles.specs.Trays.{tray_view, new_tray};
 
-use crate::limits::fits;
+use crate::limits::usable;
 use console::{Console, Full, ReadAnswer, Refusal};
 use ring::Ring;
 
@@ -18,18 +18,11 @@ impl<'i, 'o> Tray<'i, 'o> {
     pub fn new(input: &'i mut [u8], output: &'o mut [u8]) -> Tray<'i, 'o>
         ensures { tray_view result ≡ new_tray (length input.old) (length output.old) }
     {
-        if fits(input.len(), output.len()) {
-            Tray {
-                input: Ring::new(input),
-                output: Ring::new(output),
-                closed: false,
-            }
-        } else {
-            Tray {
-                input: Ring::new(&mut input[0..0]),
-                output: Ring::new(&mut output[0..0]),
-                closed: false,
-            }
+        let (most_in, most_out) = usable(input.len(), output.len());
+        Tray {
+            input: Ring::new(&mut input[..most_in]),
+            output: Ring::new(&mut output[..most_out]),
+            closed: false,
         }
     }
 }
@@ -45,23 +38,17 @@ impl Console for Tray<'_, '_> {
         }
     }
 
+    // A page puts and takes by the same two calls on its ring; a type for both would have their reading, feeding and closing
+    // as parameters, and be longer than these two lines.
     fn put(&mut self, byte: u8) -> Result<(), Full> {
-        if self.output.push(byte) {
-            Ok(())
-        } else {
-            Err(Full)
-        }
+        self.output.push(byte).map_err(|_| Full)
     }
 
     fn feed(&mut self, bytes: &[u8]) -> Result<(), Refusal> {
         if self.closed {
             return Err(Refusal::Closed);
         }
-        if self.input.append(bytes) {
-            Ok(())
-        } else {
-            Err(Refusal::NoSpace)
-        }
+        self.input.append(bytes).map_err(|_| Refusal::NoSpace)
     }
 
     fn close(&mut self) -> Result<(), Refusal> {

@@ -1,36 +1,31 @@
--- The listing of what is left of an image.
-use Rattle.std.proofs.Common.{◌≡◌, ℕ, ◌+◌, ◌<◌, ◌≤◌, List, [], ◌∷◌, ◌++◌, length, get_or, drop, sym, refl, ap, ◌∙◌, append_assoc, arith}
-use Rattle.std.proofs.lemmas.List.{drop_more}
+-- The listing of an image as the lines of its words and those of the bytes that are left.
+use Rattle.std.proofs.Common.{◌≡◌, ℕ, zero, suc, ◌+◌, ◌*◌, ◌/◌, ◌<◌, ◌≤◌, List, [], ◌∷◌, ◌++◌, length, drop, sym, ap, ◌∙◌, append_assoc, arith, rules}
+use Rattle.std.specs.Simd.{first_chunks}
 use Rattle.disassembler.specs.Listings.{byte_lines, word_lines, listing_of}
 
--- the word at a place
-abbrev pub word_at : List ℕ → ℕ → List ℕ
-word_at image at = get_or image at 0 ∷ get_or image (at + 1) 0 ∷ get_or image (at + 2) 0 ∷ get_or image (at + 3) 0 ∷ []
+-- the lines of words one after another
+abbrev pub all_lines : List (List ℕ) → List ℕ
+all_lines [] = []
+all_lines (w ∷ ws) = word_lines w ++ all_lines ws
 
-four_on : (image : List ℕ) (at : ℕ) → at + 4 ≤ length image → drop at image ≡ word_at image at ++ drop (at + 4) image
-four_on image at h =
-    drop_more image at 0 (omega arith)
-    ∙ ap (λ l. get_or image at 0 ∷ l) (drop_more image (at + 1) 0 (omega arith)
-    ∙ ap (λ k. get_or image (at + 1) 0 ∷ drop k image) (omega arith)
-    ∙ ap (λ l. get_or image (at + 1) 0 ∷ l) (drop_more image (at + 2) 0 (omega arith)
-    ∙ ap (λ k. get_or image (at + 2) 0 ∷ drop k image) (omega arith)
-    ∙ ap (λ l. get_or image (at + 2) 0 ∷ l) (drop_more image (at + 3) 0 (omega arith)
-    ∙ ap (λ k. get_or image (at + 3) 0 ∷ drop k image) (omega arith))))
-
-pub four_more : (image : List ℕ) (at : ℕ) → at + 4 ≤ length image → listing_of (drop at image) ≡ word_lines (word_at image at) ++ listing_of (drop (at + 4) image)
+few_left : (xs : List ℕ) → length xs < 4 → listing_of xs ≡ byte_lines xs
 unfolding listing_of
-four_more image at h = ap listing_of (four_on image at h)
+few_left xs h = search rules
 
-pub few_left : (xs : List ℕ) → length xs < 4 → listing_of xs ≡ byte_lines xs
+listed : (k : ℕ) (xs : List ℕ) → k * 4 ≤ length xs → length xs < k * 4 + 4 → listing_of xs ≡ all_lines (first_chunks 4 k xs) ++ byte_lines (drop (k * 4) xs)
 unfolding listing_of
-few_left [] h = refl
-few_left (a ∷ []) h = refl
-few_left (a ∷ b ∷ []) h = refl
-few_left (a ∷ b ∷ c ∷ []) h = refl
-few_left (a ∷ b ∷ c ∷ d ∷ rest) h = absurd (let z : ⊥ = omega arith in z)
+listed zero xs h g = few_left xs g
+listed (suc k) [] h g = absurd (let z : ⊥ = omega arith in z)
+listed (suc k) (a ∷ []) h g = absurd (let z : ⊥ = omega arith in z)
+listed (suc k) (a ∷ b ∷ []) h g = absurd (let z : ⊥ = omega arith in z)
+listed (suc k) (a ∷ b ∷ c ∷ []) h g = absurd (let z : ⊥ = omega arith in z)
+listed (suc k) (a ∷ b ∷ c ∷ d ∷ rest) h g =
+    let word = a ∷ b ∷ c ∷ d ∷ [] in
+    let e : suc k * 4 ≡ suc (suc (suc (suc (k * 4)))) = omega arith in
+    rw e
+    (ap (λ l. word_lines word ++ l) (listed k rest (omega arith) (omega arith))
+    ∙ sym (append_assoc (word_lines word) (all_lines (first_chunks 4 k rest)) (byte_lines (drop (k * 4) rest))))
 
--- one word more
-pub listed_more : (out more : List ℕ) (all : List ℕ) (image : List ℕ) (at : ℕ) → at + 4 ≤ length image → more ≡ out ++ word_lines (word_at image at) → out ++ listing_of (drop at image) ≡ all → more ++ listing_of (drop (at + 4) image) ≡ all
-listed_more out more all image at h e inv =
-    ap (λ l. l ++ listing_of (drop (at + 4) image)) e ∙ append_assoc out (word_lines (word_at image at)) (listing_of (drop (at + 4) image))
-    ∙ ap (λ l. out ++ l) (sym (four_more image at h)) ∙ inv
+-- the lines of an image's words, and of the bytes left of it
+pub all_listed : (xs : List ℕ) (ws : List (List ℕ)) (rest : List ℕ) → ws ≡ first_chunks 4 (length xs / 4) xs → rest ≡ drop (length xs / 4 * 4) xs → all_lines ws ++ byte_lines rest ≡ listing_of xs
+all_listed xs ws rest e f = rw e (rw f (sym (listed (length xs / 4) xs (omega arith) (omega arith))))

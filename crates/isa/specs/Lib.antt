@@ -1,4 +1,6 @@
 pub mod Distances
 pub mod Instructions
+pub mod Kinds
 pub mod Opcodes
+pub mod Scales
 pub mod Words

@@ -1,7 +1,9 @@
 -- The byte of each opcode, and the opcode of each byte.
-use Rattle.std.specs.Prelude.{ℕ, ◌+◌, cond, List, [], ◌∷◌, ◌++◌, map, Some, None, Option, ◌==◌}
+use Rattle.std.specs.Prelude.{ℕ, ◌+◌, cond, List, [], ◌∷◌, ◌++◌, map, Some, None, Option, Result, ◌==◌}
+use Rattle.std.specs.Option.{ok_or}
 use Rattle.arith.specs.declared.width.Width.{Width}
 use Rattle.isa.specs.declared.opcode.Opcode.{Opcode}
+use Rattle.isa.specs.declared.opcode.NoOpcode.{NoOpcode}
 use Rattle.isa.specs.declared.opcode.Kind.{Kind}
 use Rattle.isa.specs.declared.opcode.Scale.{Scale}
 use Rattle.isa.specs.declared.opcode.Reach.{Reach}
@@ -33,12 +35,9 @@ width_code Width.Long = 1
 width_code Width.Word = 2
 width_code Width.Byte = 3
 
+-- a store's base is 16 above the load's
 abbrev pub store_base : Reach → ℕ
-store_base (Reach.Scaled Scale.One) = 0x20
-store_base (Reach.Scaled Scale.Two) = 0x90
-store_base (Reach.Scaled Scale.Four) = 0xB0
-store_base (Reach.Scaled Scale.Eight) = 0xD0
-store_base Reach.Displaced = 0x28
+store_base r = load_base r + 0x10
 
 -- an immediate opcode is 8 above the one that takes a register
 abbrev pub source_code : Source → ℕ
@@ -134,3 +133,7 @@ first_with byte (o ∷ os) = cond (code_of o == byte) (Some o) (first_with byte 
 unfoldable pub opcode_of : ℕ → Option Opcode
 unfolding opcodes
 opcode_of byte = first_with byte opcodes
+
+-- the same, with the byte itself where it stands for none
+abbrev pub opcode_or_error : ℕ → Result Opcode NoOpcode
+opcode_or_error byte = ok_or (opcode_of byte) (record { 0 = byte })

@@ -1,27 +1,27 @@
 // Instructions, and the opcode and fields of each.
 ghost use Rattle.std.specs.Prelude.{◌≡◌};
-ghost use Rattle.isa.specs.Instructions.{opcode, fields, reach_of, pair_of, source_of, field_of, split};
+ghost use Rattle.isa.specs.Instructions.{opcode, fields, reach_of, pair_of, source_of, field_of, split, FitsAddress, Formed};
 
 use crate::distance::Distance;
 use crate::opcode::{Condition, Kind, Opcode, Operation, Reach, Scale, Source};
 use arith::width::Width;
 
 // The address of a load or a store: a register plus a scaled one, or a displacement plus a register.
-#[derive(Clone, Copy)]
+#[derive(Clone, Copy, PartialEq, Eq, Debug)]
 pub enum Address {
     Scaled { base: u8, index: u8, scale: Scale },
     Displaced { displacement: i8, base: u8 },
 }
 
 // A first operand: a register's number, or the field itself.
-#[derive(Clone, Copy)]
+#[derive(Clone, Copy, PartialEq, Eq, Debug)]
 pub enum Operand {
     Register(u8),
     Immediate(u8),
 }
 
 // Registers are given by their numbers.
-#[derive(Clone, Copy)]
+#[derive(Clone, Copy, PartialEq, Eq, Debug)]
 pub enum Instruction {
     Load {
         kind: Kind,
@@ -112,7 +112,8 @@ impl Address {
 
     // Its two fields.
     fn pair(self) -> (u8, u8)
-        ensures { result ≡ pair_of self }
+        ensures value { result ≡ pair_of self }
+        ensures fits { FitsAddress self }
     {
         match self {
             Address::Scaled { base, index, .. } => (base, index),
@@ -176,9 +177,11 @@ impl Instruction {
         }
     }
 
-    // The fields X, Y and Z of its word; those without a meaning are 0.
+    // The fields X, Y and Z of its word; those without a meaning are 0. All its numbers are read here, so here it is
+    // said that they fit their types. They stay a triple: a struct of them would be taken apart wherever it is made.
     pub fn fields(self) -> (u8, u8, u8)
-        ensures { result ≡ fields self }
+        ensures value { result ≡ fields self }
+        ensures formed { Formed self }
     {
         match self {
             Instruction::Load { address, to, .. } => {

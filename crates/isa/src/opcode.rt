@@ -1,12 +1,14 @@
 // Opcodes: what the first byte of a word stands for.
 ghost use Rattle.std.specs.Prelude.{◌≡◌, ◌+◌};
-ghost use Rattle.isa.specs.Opcodes.{opcode_of, code_of, load_base, store_base, kind_code, width_code, binary_code, source_code, condition_code};
+ghost use Rattle.isa.specs.Kinds.{width_of, extension_of};
+ghost use Rattle.isa.specs.Scales.{factor};
+ghost use Rattle.isa.specs.Opcodes.{opcode_or_error, code_of, load_base, kind_code, width_code, binary_code, source_code, condition_code};
 
 use crate::table::OPCODES;
-use arith::width::Width;
+use arith::width::{Extension, Width};
 
 // What a load reads, and how it is widened to 64 bits: by zeros or by the sign.
-#[derive(Clone, Copy)]
+#[derive(Clone, Copy, PartialEq, Eq, Debug)]
 pub enum Kind {
     Quad,
     ZeroLong,
@@ -17,8 +19,34 @@ pub enum Kind {
     SignByte,
 }
 
+// How many bytes are read.
+impl From<Kind> for Width {
+    ghost from_gives = { λ kind width. width ≡ width_of kind };
+
+    fn from(kind: Kind) -> Width {
+        match kind {
+            Kind::Quad => Width::Quad,
+            Kind::ZeroLong | Kind::SignLong => Width::Long,
+            Kind::ZeroWord | Kind::SignWord => Width::Word,
+            Kind::ZeroByte | Kind::SignByte => Width::Byte,
+        }
+    }
+}
+
+// How they are widened; eight bytes need no widening.
+impl From<Kind> for Extension {
+    ghost from_gives = { λ kind extension. extension ≡ extension_of kind };
+
+    fn from(kind: Kind) -> Extension {
+        match kind {
+            Kind::Quad | Kind::ZeroLong | Kind::ZeroWord | Kind::ZeroByte => Extension::Zero,
+            Kind::SignLong | Kind::SignWord | Kind::SignByte => Extension::Sign,
+        }
+    }
+}
+
 // What the second register of an address is multiplied by.
-#[derive(Clone, Copy)]
+#[derive(Clone, Copy, PartialEq, Eq, Debug)]
 pub enum Scale {
     One,
     Two,
@@ -26,22 +54,36 @@ pub enum Scale {
     Eight,
 }
 
+impl Scale {
+    // The number itself.
+    pub fn factor(self) -> u8
+        ensures { result ≡ factor self }
+    {
+        match self {
+            Scale::One => 1,
+            Scale::Two => 2,
+            Scale::Four => 4,
+            Scale::Eight => 8,
+        }
+    }
+}
+
 // How an address is made: a register and a scaled register, or a displacement and a register.
-#[derive(Clone, Copy)]
+#[derive(Clone, Copy, PartialEq, Eq, Debug)]
 pub enum Reach {
     Scaled(Scale),
     Displaced,
 }
 
 // Where the first operand comes from: a register, or the field itself.
-#[derive(Clone, Copy)]
+#[derive(Clone, Copy, PartialEq, Eq, Debug)]
 pub enum Source {
     Register,
     Immediate,
 }
 
 // The operations that take their first operand from either source.
-#[derive(Clone, Copy)]
+#[derive(Clone, Copy, PartialEq, Eq, Debug)]
 pub enum Operation {
     Add,
     Subtract,
@@ -54,7 +96,7 @@ pub enum Operation {
 }
 
 // When a jump is taken: Less and Greater compare with sign, Carry (below) and Above without.
-#[derive(Clone, Copy)]
+#[derive(Clone, Copy, PartialEq, Eq, Debug)]
 pub enum Condition {
     Always,
     Zero,
@@ -69,7 +111,7 @@ pub enum Condition {
     Above,
 }
 
-#[derive(Clone, Copy)]
+#[derive(Clone, Copy, PartialEq, Eq, Debug)]
 pub enum Opcode {
     Load(Kind, Reach),
     Store(Width, Reach),
@@ -104,18 +146,6 @@ fn load_base(reach: Reach) -> u8
         Reach::Scaled(Scale::Four) => 0xA0,
         Reach::Scaled(Scale::Eight) => 0xC0,
         Reach::Displaced => 0x18,
-    }
-}
-
-fn store_base(reach: Reach) -> u8
-    ensures { result ≡ store_base reach }
-{
-    match reach {
-        Reach::Scaled(Scale::One) => 0x20,
-        Reach::Scaled(Scale::Two) => 0x90,
-        Reach::Scaled(Scale::Four) => 0xB0,
-        Reach::Scaled(Scale::Eight) => 0xD0,
-        Reach::Displaced => 0x28,
     }
 }
 
@@ -181,21 +211,28 @@ fn condition_code(condition: Condition) -> u8
     }
 }
 
-impl Opcode {
-    // The opcode that a byte stands for, if any.
-    pub fn from_byte(byte: u8) -> Option<Opcode>
-        ensures { result ≡ opcode_of byte }
-    {
-        OPCODES[byte as usize]
-    }
+// A byte that stands for no opcode.
+#[derive(Clone, Copy, PartialEq, Eq, Debug)]
+pub struct NoOpcode(pub u8);
 
-    // The byte that stands for the opcode.
-    pub fn byte(self) -> u8
-        ensures { result ≡ code_of self }
-    {
-        match self {
+impl TryFrom<u8> for Opcode {
+    type Error = NoOpcode;
+
+    ghost try_from_gives = { λ byte r. r ≡ opcode_or_error byte };
+
+    fn try_from(byte: u8) -> Result<Opcode, NoOpcode> {
+        OPCODES[usize::from(byte)].ok_or(NoOpcode(byte))
+    }
+}
+
+// The byte that stands for an opcode.
+impl From<Opcode> for u8 {
+    ghost from_gives = { λ opcode byte. byte ≡ code_of opcode };
+
+    fn from(opcode: Opcode) -> u8 {
+        match opcode {
             Opcode::Load(kind, reach) => load_base(reach) + kind_code(kind),
-            Opcode::Store(width, reach) => store_base(reach) + width_code(width),
+            Opcode::Store(width, reach) => load_base(reach) + 0x10 + width_code(width),
             Opcode::Binary(operation, source) => binary_code(operation, source),
             Opcode::AddWithZero => 0x37,
             Opcode::AddTriple => 0x06,

@@ -1,43 +1,40 @@
 // Words of four bytes, highest first, and the instructions that they stand for.
-ghost use Rattle.std.specs.Prelude.{◌≡◌, ◌^◌, ◌<◌, [], ◌∷◌, Some};
-ghost use Rattle.isa.specs.Instructions.{encoded, field_of, FitsAddress, Formed};
-ghost use Rattle.isa.specs.Words.{decoded, with_fields, address_of, operand_of, distance_of, Decodes};
+ghost use Rattle.std.specs.Prelude.{◌≡◌, Some};
+ghost use Rattle.isa.specs.Instructions.{encoded};
+ghost use Rattle.isa.specs.Words.{decoded, with_fields, address_of, operand_of, Decodes};
 
 use crate::distance::Distance;
 use crate::instruction::{Address, Instruction, Operand};
 use crate::opcode::{Opcode, Reach, Source};
 
-fn address_from(reach: Reach, first: u8, second: u8) -> Address
-    ensures { result ≡ address_of reach first second }
-{
-    match reach {
-        Reach::Scaled(scale) => Address::Scaled {
-            base: first,
-            index: second,
-            scale,
-        },
-        Reach::Displaced => Address::Displaced {
-            displacement: first.cast_signed(),
-            base: second,
-        },
+impl Reach {
+    // The address that is made so from its two fields.
+    fn address(self, first: u8, second: u8) -> Address
+        ensures { result ≡ address_of self first second }
+    {
+        match self {
+            Reach::Scaled(scale) => Address::Scaled {
+                base: first,
+                index: second,
+                scale,
+            },
+            Reach::Displaced => Address::Displaced {
+                displacement: first.cast_signed(),
+                base: second,
+            },
+        }
     }
 }
 
-fn operand_from(source: Source, x: u8) -> Operand
-    ensures { result ≡ operand_of source x }
-{
-    match source {
-        Source::Register => Operand::Register(x),
-        Source::Immediate => Operand::Immediate(x),
-    }
-}
-
-fn distance_from(x: u8, y: u8, z: u8) -> Distance
-    ensures { result ≡ distance_of x y z }
-{
-    Distance {
-        high: x.cast_signed(),
-        low: u16::from_be_bytes([y, z]),
+impl Source {
+    // The operand that comes from there.
+    fn operand(self, x: u8) -> Operand
+        ensures { result ≡ operand_of self x }
+    {
+        match self {
+            Source::Register => Operand::Register(x),
+            Source::Immediate => Operand::Immediate(x),
+        }
     }
 }
 
@@ -45,122 +42,71 @@ fn distance_from(x: u8, y: u8, z: u8) -> Distance
 fn from_fields(opcode: Opcode, x: u8, y: u8, z: u8) -> Option<Instruction>
     ensures { result ≡ with_fields opcode x y z }
 {
-    match opcode {
-        Opcode::Load(kind, reach) => Some(Instruction::Load {
+    let value = u16::from_be_bytes([x, y]);
+    let signed = value.cast_signed();
+    let is_alone = y == 0 && z == 0;
+    Some(match opcode {
+        Opcode::Load(kind, reach) => Instruction::Load {
             kind,
-            address: address_from(reach, x, y),
+            address: reach.address(x, y),
             to: z,
-        }),
-        Opcode::Store(width, reach) => Some(Instruction::Store {
+        },
+        Opcode::Store(width, reach) => Instruction::Store {
             width,
             from: x,
-            address: address_from(reach, y, z),
-        }),
-        Opcode::Binary(operation, source) => Some(Instruction::Binary {
+            address: reach.address(y, z),
+        },
+        Opcode::Binary(operation, source) => Instruction::Binary {
             operation,
-            a: operand_from(source, x),
+            a: source.operand(x),
             b: y,
             to: z,
-        }),
-        Opcode::AddWithZero => Some(Instruction::AddWithZero { a: x, b: y, to: z }),
-        Opcode::AddTriple => Some(Instruction::AddTriple { x, b: y, to: z }),
-        Opcode::Or => Some(Instruction::Or { a: x, b: y, to: z }),
-        Opcode::And => Some(Instruction::And { a: x, b: y, to: z }),
-        Opcode::Not if z == 0 => Some(Instruction::Not { from: x, to: y }),
-        Opcode::Not => None,
-        Opcode::LoadUnsigned => Some(Instruction::LoadUnsigned {
-            value: u16::from_be_bytes([x, y]),
+        },
+        Opcode::AddWithZero => Instruction::AddWithZero { a: x, b: y, to: z },
+        Opcode::AddTriple => Instruction::AddTriple { x, b: y, to: z },
+        Opcode::Or => Instruction::Or { a: x, b: y, to: z },
+        Opcode::And => Instruction::And { a: x, b: y, to: z },
+        Opcode::Not if z == 0 => Instruction::Not { from: x, to: y },
+        Opcode::LoadUnsigned => Instruction::LoadUnsigned { value, to: z },
+        Opcode::LoadSigned => Instruction::LoadSigned {
+            value: signed,
             to: z,
-        }),
-        Opcode::LoadSigned => Some(Instruction::LoadSigned {
-            value: u16::from_be_bytes([x, y]).cast_signed(),
-            to: z,
-        }),
-        Opcode::ShiftIn => Some(Instruction::ShiftIn {
-            value: u16::from_be_bytes([x, y]),
-            to: z,
-        }),
-        Opcode::Jump(condition) => Some(Instruction::Jump {
+        },
+        Opcode::ShiftIn => Instruction::ShiftIn { value, to: z },
+        Opcode::Jump(condition) => Instruction::Jump {
             condition,
-            distance: distance_from(x, y, z),
-        }),
-        Opcode::JumpRegister if z == 0 => Some(Instruction::JumpRegister { target: x, link: y }),
-        Opcode::JumpRegister => None,
-        Opcode::Halt(source) if y == 0 && z == 0 => Some(Instruction::Halt {
-            code: operand_from(source, x),
-        }),
-        Opcode::Halt(_) => None,
-        Opcode::Trap => Some(Instruction::Trap { x, y, z }),
-        Opcode::Get if y == 0 && z == 0 => Some(Instruction::Get { to: x }),
-        Opcode::Get => None,
-        Opcode::Put(source) if y == 0 && z == 0 => Some(Instruction::Put {
-            from: operand_from(source, x),
-        }),
-        Opcode::Put(_) => None,
-        Opcode::Nothing if x == 0 && y == 0 && z == 0 => Some(Instruction::Nothing),
-        Opcode::Nothing => None,
-    }
-}
-
-fn instruction_of(op: u8, x: u8, y: u8, z: u8) -> Option<Instruction>
-    ensures { result ≡ decoded (op ∷ x ∷ y ∷ z ∷ []) }
-{
-    from_fields(Opcode::from_byte(op)?, x, y, z)
+            distance: Distance::from([x, y, z]),
+        },
+        Opcode::JumpRegister if z == 0 => Instruction::JumpRegister { target: x, link: y },
+        Opcode::Halt(source) if is_alone => Instruction::Halt {
+            code: source.operand(x),
+        },
+        Opcode::Trap => Instruction::Trap { x, y, z },
+        Opcode::Get if is_alone => Instruction::Get { to: x },
+        Opcode::Put(source) if is_alone => Instruction::Put {
+            from: source.operand(x),
+        },
+        Opcode::Nothing if x == 0 && is_alone => Instruction::Nothing,
+        _ => return None,
+    })
 }
 
 // The instruction that a word stands for; none where the word is not legal, that is where no instruction has it.
+#[tactic(auto, using(crate::proofs::Trips::decodes_as))]
 pub fn decode(word: [u8; 4]) -> Option<Instruction>
     ensures value { result ≡ decoded word }
     ensures inverse { Decodes word result }
 {
     let [op, x, y, z] = word;
-    instruction_of(op, x, y, z)
-}
-
-fn operand_fits(operand: Operand)
-    ensures { field_of operand < 2 ^ 8 }
-{
-    match operand {
-        Operand::Register(_) => {}
-        Operand::Immediate(_) => {}
-    }
-}
-
-fn address_fits(address: Address)
-    ensures { FitsAddress address }
-{
-    match address {
-        Address::Scaled { .. } => {}
-        Address::Displaced { .. } => {}
-    }
-}
-
-// An instruction's numbers fit their types: said of the whole, for the proof of the law below.
-fn formed(instruction: Instruction)
-    ensures { Formed instruction }
-{
-    match instruction {
-        Instruction::Load { address, .. } => address_fits(address),
-        Instruction::Store { address, .. } => address_fits(address),
-        Instruction::Binary { a, .. } => operand_fits(a),
-        Instruction::Halt { code } => operand_fits(code),
-        Instruction::Put { from } => operand_fits(from),
-        _ => {}
-    }
-}
-
-fn word_of(instruction: Instruction) -> [u8; 4]
-    ensures { result ≡ encoded instruction }
-{
-    let (x, y, z) = instruction.fields();
-    [instruction.opcode().byte(), x, y, z]
+    from_fields(Opcode::try_from(op).ok()?, x, y, z)
 }
 
 // The word that stands for an instruction.
+#[tactic(auto, using(crate::proofs::Trips::decoded_encoded))]
 pub fn encode(instruction: Instruction) -> [u8; 4]
     ensures value { result ≡ encoded instruction }
     ensures inverse { decoded result ≡ Some instruction }
 {
-    formed(instruction);
-    word_of(instruction)
+    let (x, y, z) = instruction.fields();
+    [u8::from(instruction.opcode()), x, y, z]
 }

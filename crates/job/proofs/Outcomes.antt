@@ -1,10 +1,9 @@
 -- A run has one outcome, and stops short exactly for its three reasons.
 -- None of these opens `try`: what a try asks for is taken as it is.
-use Rattle.std.proofs.Common.{◌≡◌, ℕ, ◌+◌, ◌<◌, ◌≤◌, Bool, true, false, cond, ltb, List, [], ◌∷◌, ◌++◌, length, sym, refl, ap, ◌∙◌, subst, inl, inr, arith}
+use Rattle.std.proofs.Common.{◌≡◌, ℕ, ◌+◌, ◌<◌, ◌≤◌, Bool, true, false, ltb, List, length, sym, refl, ◌∙◌, inl, inr, arith}
 use Rattle.std.proofs.lemmas.Bool.{lt-ltb, le-ltb, cases_order}
-use Rattle.console.specs.Streams.{Con, with_held}
-use Rattle.machine.specs.Tries.{try}
-use Rattle.machine.specs.Steps.{Life, live, over, State, Next, goes, waits, full, fails, stands, living, next_get, next_of, next_if, next}
+use Rattle.console.specs.Streams.{Con}
+use Rattle.machine.specs.Steps.{Life, live, over, State, Next, goes, waits, full, fails, stands, next}
 use Rattle.machine.specs.declared.fault.Fault as fault
 use Rattle.machine.specs.declared.ending.Ending.{Ending}
 use Rattle.machine.specs.declared.ending.Ending.TheVariants.{Halt, Trap, Fault}
@@ -15,59 +14,44 @@ use Rattle.job.specs.Jobs.{Allowed, Accepted, state_of, why_of, count_of}
 use Rattle.job.specs.declared.Paused.{Paused}
 use Rattle.job.specs.declared.Outcome.{Outcome}
 
-same_goes : (x : Next) (m w : State) → x ≡ goes m → x ≡ goes w → w ≡ m
-same_goes x m w d e = cc
-
 -- steps lead to one state
 settled : {marks : List Bool} {s : State} {n : ℕ} {t : State} {k : ℕ} {u : State} → Reaches marks s n t → Reaches marks s k u → n ≡ k → t ≡ u
 settled here here e = refl
-settled here (step {n = n} d q) e = absurd (let z : ⊥ = omega arith in z)
-settled (step {n = n} d p) here e = absurd (let z : ⊥ = omega arith in z)
-settled {marks} {u = u} (step {m = m} {n = n} d p) (step {m = x} {n = k} h q) e =
-    settled p (subst (λ z. Reaches marks z k u) (same_goes _ m x d h) q) (omega arith)
+settled here (step {n = n} d q) e = absurd (omega arith)
+settled (step {n = n} d p) here e = absurd (omega arith)
+settled (step {m = m} {n = n} d p) (step {m = x} {n = k} h q) e = let same : x ≡ m = cc in settled p (rw same at q) (omega arith)
 
 -- where more steps were made, one was made from there
 onward : {marks : List Bool} {s : State} {n : ℕ} {t : State} {k : ℕ} {u : State} → Reaches marks s n t → Reaches marks s k u → n < k → (m : State) × (next marks t ≡ goes m)
-onward here here h = absurd (let z : ⊥ = omega arith in z)
+onward here here h = absurd (omega arith)
 onward here (step {m = m} d q) h = (m, d)
-onward (step {n = n} d p) here h = absurd (let z : ⊥ = omega arith in z)
-onward {marks} {u = u} (step {m = m} {n = n} d p) (step {m = x} {n = k} h q) l =
-    onward p (subst (λ z. Reaches marks z k u) (same_goes _ m x d h) q) (omega arith)
+onward (step {n = n} d p) here h = absurd (omega arith)
+onward (step {m = m} {n = n} d p) (step {m = x} {n = k} h q) l = let same : x ≡ m = cc in onward p (rw same at q) (omega arith)
 
 -- a machine that lives has not ended without a step
 one_at_least : {marks : List Bool} {s : State} {n : ℕ} {t : State} (e : Ending) → Reaches marks s n t → s.halted ≡ live → t.halted ≡ over e → 1 ≤ n
-one_at_least e here l h = absurd (let z : ◌≡◌ {A = ℕ} 0 1 = cc in let w : ⊥ = omega arith in w)
+one_at_least e here l h = absurd cc
 one_at_least e (step {n = n} d p) l h = omega arith
 
 -- what the next try is, at each reason
 module _ (marks : List Bool) (s : State) where
-  lives : s.halted ≡ live → next marks s ≡ next_of (try marks s.core) s.core s.con
-  lives e = ap (λ l. next_if l (try marks s.core) s.core s.con) e
-
   is_waits : LacksByte marks s → next marks s ≡ waits
-  is_waits h =
-      lives h.live_yet ∙ ap (λ a. next_of a s.core s.con) h.getc ∙
-      ap (λ w. next_get h.goes_on s.con w s.con.closed) h.empty ∙ ap (next_get h.goes_on s.con []) h.open_yet
+  is_waits h = rw (h.live_yet, h.getc, h.empty, h.open_yet)
 
   is_full : LacksSpace marks s → next marks s ≡ full
-  is_full h =
-      lives h.live_yet ∙ ap (λ a. next_of a s.core s.con) h.putc ∙
-      ap (λ r. cond r (goes (living h.goes_on (with_held s.con (s.con.held ++ h.byte ∷ [])))) full) (le-ltb (length s.con.held) s.con.out_limit h.held_up)
+  is_full h = rw (h.live_yet, h.putc, le-ltb (length s.con.held) s.con.out_limit h.held_up)
 
   is_fails : (f : fault.Fault) → FaultsWith marks s f → next marks s ≡ fails f
-  is_fails f h = lives h.live_yet ∙ ap (λ a. next_of a s.core s.con) h.faulty
-
-  is_over : (e : Ending) → s.halted ≡ over e → next marks s ≡ stands
-  is_over e h = ap (λ l. next_if l (try marks s.core) s.core s.con) h
+  is_fails f h = rw (h.live_yet, h.faulty)
 
   -- no step can be made
   no_step : (w : Stop) (m : State) → Stuck marks s w → next marks s ≡ goes m → ⊥
   no_step Spent m h e = h
-  no_step Waiting m h e = let d = is_waits h in let z : ◌≡◌ {A = ℕ} 0 1 = cc in omega arith
-  no_step Full m h e = let d = is_full h in let z : ◌≡◌ {A = ℕ} 0 1 = cc in omega arith
-  no_step (Finished (Halt n)) m h e = let d = is_over (Halt n) h in let z : ◌≡◌ {A = ℕ} 0 1 = cc in omega arith
-  no_step (Finished (Trap x y z)) m h e = let d = is_over (Trap x y z) h in let z : ◌≡◌ {A = ℕ} 0 1 = cc in omega arith
-  no_step (Finished (Fault f)) m h e = let d = is_fails f h in let z : ◌≡◌ {A = ℕ} 0 1 = cc in omega arith
+  no_step Waiting m h e = let d = is_waits h in cc
+  no_step Full m h e = let d = is_full h in cc
+  no_step (Finished (Halt n)) m h e = let d = rw h at e in cc
+  no_step (Finished (Trap x y z)) m h e = let d = rw h at e in cc
+  no_step (Finished (Fault f)) m h e = let d = is_fails f h in cc
 
 -- the reason, computed
 abbrev reason_at : Life → Bool → Next → Stop
@@ -80,20 +64,16 @@ reason_at live true (fails f) = Finished (Fault f)
 reason_at live true stands = Spent
 
 module _ (marks : List Bool) (budget steps : ℕ) (s : State) where
-  while : (x : Next) → steps < budget → s.halted ≡ live → next marks s ≡ x → reason_at s.halted (ltb steps budget) (next marks s) ≡ reason_at live true x
-  while x h l e =
-      ap (λ y. reason_at y (ltb steps budget) (next marks s)) l ∙ ap (λ b. reason_at live b (next marks s)) (lt-ltb steps budget h) ∙ ap (reason_at live true) e
-
   told : (w : Stop) → Stopped marks budget steps s w → reason_at s.halted (ltb steps budget) (next marks s) ≡ w
-  told Spent h = ap (λ y. reason_at y (ltb steps budget) (next marks s)) h.1 ∙ ap (λ b. reason_at live b (next marks s)) (le-ltb steps budget (omega (arith, h.0)))
-  told Waiting h = while waits h.0 h.1.live_yet (is_waits marks s h.1)
-  told Full h = while full h.0 h.1.live_yet (is_full marks s h.1)
-  told (Finished (Halt n)) h = ap (λ y. reason_at y (ltb steps budget) (next marks s)) h.1
-  told (Finished (Trap x y z)) h = ap (λ l. reason_at l (ltb steps budget) (next marks s)) h.1
-  told (Finished (Fault f)) h = while (fails f) h.0 h.1.live_yet (is_fails marks s f h.1)
+  told Spent h = rw (h.1, le-ltb steps budget (omega (arith, h.0)))
+  told Waiting h = rw (is_waits marks s h.1, h.1.live_yet, lt-ltb steps budget h.0)
+  told Full h = rw (is_full marks s h.1, h.1.live_yet, lt-ltb steps budget h.0)
+  told (Finished (Halt n)) h = rw h.1
+  told (Finished (Trap x y z)) h = rw h.1
+  told (Finished (Fault f)) h = rw (is_fails marks s f h.1, h.1.live_yet, lt-ltb steps budget h.0)
 
   short_of : (w : Stop) → Stopped marks budget steps s w → steps < budget → Stuck marks s w
-  short_of Spent h l = let z : ⊥ = omega (arith, h.0) in z
+  short_of Spent h l = omega (arith, h.0)
   short_of Waiting h l = h.1
   short_of Full h l = h.1
   short_of (Finished e) h l = h.1
@@ -106,10 +86,10 @@ module _ (marks : List Bool) (budget steps : ℕ) (s : State) where
   stopped (Finished (Trap x y z)) h l one = ((one (Trap x y z) h, omega arith), h)
   stopped (Finished (Fault f)) h l one = (l, h)
 
-module _ (marks : List Bool) (budget : ℕ) (before after : State) (steps : ℕ) (why : Stop) (r : Runs marks budget before after steps why) where
+module _ {marks : List Bool} {budget : ℕ} {before after : State} {steps : ℕ} {why : Stop} (r : Runs marks budget before after steps why) where
   -- neither makes more steps than the other
-  no_more : (t u : State) (n k : ℕ) (w v : Stop) → Runs marks budget before t n w → Runs marks budget before u k v → n < k → ⊥
-  no_more t u n k w v a b l =
+  no_more : {t u : State} {n k : ℕ} {w v : Stop} → Runs marks budget before t n w → Runs marks budget before u k v → n < k → ⊥
+  no_more {t} {n = n} {w = w} a b l =
       let d = onward a.reached b.reached l in
       no_step marks t w d.0 (short_of marks budget n t w a.because (omega (arith, b.within))) d.1
 
@@ -117,17 +97,15 @@ module _ (marks : List Bool) (budget : ℕ) (before after : State) (steps : ℕ)
   same_steps t n w a =
       elim (cases_order steps n) [
         | inl e ↦ e
-        | inr (inl l) ↦ absurd (no_more after t steps n why w r a l)
-        | inr (inr l) ↦ absurd (no_more t after n steps w why a r l)
+        | inr (inl l) ↦ absurd (no_more r a l)
+        | inr (inr l) ↦ absurd (no_more a r l)
       ]
 
   pub only_outcome : OnlyOutcome marks budget before after steps why
   only_outcome t n w a =
       let e = same_steps t n w a in
       let q = settled r.reached a.reached e in
-      let b = subst (λ i. Stopped marks budget i t w) (sym e) a.because in
-      let c = subst (λ u. Stopped marks budget steps u w) (sym q) b in
-      (e, q, sym (told marks budget steps after why r.because) ∙ told marks budget steps after w c)
+      (e, q, sym (told marks budget steps after why r.because) ∙ told marks budget steps after w (rw (← q, ← e) at a.because))
 
   pub stops_short : before.halted ≡ live → StopsShort marks budget before after steps why
   stops_short alive = record {
@@ -136,9 +114,7 @@ module _ (marks : List Bool) (budget : ℕ) (before after : State) (steps : ℕ)
   }
 
 -- what a run promises, from the outcome that it was left at
-pub accepted : (marks : List Bool) (p : Paused) (s : State) (budget : ℕ) (regs cells : List ℕ) (k : Con) (steps : ℕ) (o o' : Outcome) → o ≡ o' → s.halted ≡ live → Allowed budget p.at.count →
-    Runs marks budget s (state_of o' regs cells k) steps (why_of o') → count_of o' ≡ p.at.count + steps →
+pub accepted : {marks : List Bool} {p : Paused} {s : State} {budget : ℕ} {regs cells : List ℕ} {k : Con} {steps : ℕ} {o o' : Outcome} → o ≡ o' → s.halted ≡ live →
+    Allowed budget p.at.count → Runs marks budget s (state_of o' regs cells k) steps (why_of o') → count_of o' ≡ p.at.count + steps →
     Accepted marks p s budget regs cells k (record { steps = steps; outcome = o })
-accepted marks p s budget regs cells k steps o o' q l a h e =
-    subst (λ x. Accepted marks p s budget regs cells k (record { steps = steps; outcome = x })) (sym q)
-    (record { allowed = a; runs = h; short = stops_short _ _ _ _ _ _ h l; only = only_outcome _ _ _ _ _ _ h; counted = e })
+accepted q l a h e = rw q (record { allowed = a; runs = h; short = stops_short h l; only = only_outcome h; counted = e })

@@ -1,111 +1,73 @@
 -- One more step, for the loop of a run.
-use Rattle.std.proofs.Common.{◌≡◌, ℕ, suc, ◌+◌, ◌<◌, ◌≤◌, Bool, true, false, cond, List, [], ◌∷◌, ◌++◌, length, sym, refl, ap, ◌∙◌, subst, add-one, arith, ltb-false}
-use Rattle.machine.specs.Cores.{Core, Heard, Act, moves, gets, puts, halts, traps, faults}
-use Rattle.machine.specs.Tries.{try}
-use Rattle.machine.specs.declared.fault.Fault as fault
-use Rattle.machine.specs.declared.ending.Ending.TheVariants.{Fault}
-use Rattle.job.specs.declared.Stop.TheVariants as stop
+use Rattle.std.proofs.Common.{◌≡◌, ℕ, suc, ◌+◌, ◌<◌, Bool, true, false, cond, List, [], ◌∷◌, ◌++◌, length, sym, refl, ap, ◌∙◌, subst, add-one, arith, ltb-false}
 use Rattle.console.specs.Streams.{Con, has_room, with_held}
-use Rattle.machine.specs.Steps.{Life, live, over, State, goes, waits, full, fails, living, stopped_with, next_get, next_if, next}
-use Rattle.job.specs.Runs.{Reaches, here, step, LacksByte, LacksSpace, FaultsWith, Runs}
-use Rattle.machine.specs.Tryings.{core_of, Kept}
+use Rattle.machine.specs.Cores.{Core, Heard, Act, moves, gets, puts, halts, traps, faults, core_of}
+use Rattle.machine.specs.Tries.{try}
+use Rattle.machine.specs.Tryings.{Kept}
+use Rattle.machine.specs.Steps.{Life, live, over, State, Next, goes, waits, full, fails, stands, living, stopped_with, next_get, next_if, next}
 use Rattle.machine.specs.declared.ending.Ending.{Ending}
+use Rattle.machine.specs.declared.fault.Fault.{Fault}
+use Rattle.job.specs.Runs.{Reaches, here, step, LacksByte, LacksSpace, FaultsWith, Stopped, Runs}
+use Rattle.job.specs.declared.Stop.{Stop}
+use Rattle.job.specs.declared.Stop.TheVariants as stop
 
 pub snoc : {marks : List Bool} {s m t : State} {n : ℕ} → Reaches marks s n m → next marks m ≡ goes t → Reaches marks s (suc n) t
 snoc here e = step e here
 snoc (step d r) e = step d (snoc r e)
 
--- the try was made at marks that are still those of the start
-pub one_more : (marks now : List Bool) (s m t : State) (n : ℕ) → now ≡ marks → Reaches marks s n m → next now m ≡ goes t → Reaches marks s (n + 1) t
-one_more marks now s m t n k r e =
-    subst (λ i. Reaches marks s i t) (sym (add-one n)) (snoc r (subst (λ w. next w m ≡ goes t) k e))
-
-pub last_one : (marks now : List Bool) (s m : State) (n : ℕ) (regs cells : List ℕ) (k : Con) (e : Ending) → now ≡ marks → Reaches marks s n m →
-    next now m ≡ goes (stopped_with m.core m.con e) → Kept m regs cells k →
-    Reaches marks s (n + 1) (stopped_with (core_of regs m.core.flags m.core.place cells) k e)
-last_one marks now s m n regs cells k e h r d q =
-    one_more marks now s m _ n h r (d ∙ ap (λ w. goes (stopped_with w.core w.con e)) (sym q))
-
 -- why a try came to nothing, in words
-waits_if : (l : Life) (a : Act) (c : Core) (k : Con) → next_if l a c k ≡ waits → (l ≡ live) × ((f : Heard → Core) × (a ≡ gets f)) × (k.waiting ≡ []) × (k.closed ≡ false)
-waits_if live (gets f) c k e = let r = go k.waiting k.closed e in (refl, (f, refl), r.0, r.1)
-  where
-    go : (w : List ℕ) (d : Bool) → next_get f k w d ≡ waits → (w ≡ []) × (d ≡ false)
-    go [] false e = (refl, refl)
-    go [] true e = absurd (let z : ◌≡◌ {A = ℕ} 0 1 = cc in let b : ⊥ = omega arith in b)
-    go (x ∷ w) d e = absurd (let z : ◌≡◌ {A = ℕ} 0 1 = cc in let b : ⊥ = omega arith in b)
-waits_if live (moves d) c k e = absurd (let z : ◌≡◌ {A = ℕ} 0 1 = cc in let b : ⊥ = omega arith in b)
-waits_if live (puts b d) c k e = absurd (go (has_room k) e)
-  where
-    go : (r : Bool) → cond r (goes (living d (with_held k (k.held ++ b ∷ [])))) full ≡ waits → ⊥
-    go true e = let z : ◌≡◌ {A = ℕ} 0 1 = cc in omega arith
-    go false e = let z : ◌≡◌ {A = ℕ} 0 1 = cc in omega arith
-waits_if live (halts n) c k e = absurd (let z : ◌≡◌ {A = ℕ} 0 1 = cc in let b : ⊥ = omega arith in b)
-waits_if live (traps p q r) c k e = absurd (let z : ◌≡◌ {A = ℕ} 0 1 = cc in let b : ⊥ = omega arith in b)
-waits_if live (faults f) c k e = absurd (let z : ◌≡◌ {A = ℕ} 0 1 = cc in let b : ⊥ = omega arith in b)
-waits_if (over y) a c k e = absurd (let z : ◌≡◌ {A = ℕ} 0 1 = cc in let b : ⊥ = omega arith in b)
+abbrev Why : List Bool → State → Next → Type 0
+Why marks s (goes m) = Unit {0}
+Why marks s waits = LacksByte marks s
+Why marks s full = LacksSpace marks s
+Why marks s (fails f) = FaultsWith marks s f
+Why marks s stands = Unit {0}
 
-full_if : (l : Life) (a : Act) (c : Core) (k : Con) → next_if l a c k ≡ full → (l ≡ live) × ((b : ℕ) × (d : Core) × (a ≡ puts b d)) × (k.out_limit ≤ length k.held)
-full_if live (puts b d) c k e = (refl, (b, d, refl), go (has_room k) refl e)
-  where
-    go : (r : Bool) → has_room k ≡ r → cond r (goes (living d (with_held k (k.held ++ b ∷ [])))) full ≡ full → k.out_limit ≤ length k.held
-    go true h e = absurd (let z : ◌≡◌ {A = ℕ} 0 1 = cc in let b : ⊥ = omega arith in b)
-    go false h e = omega (arith, ltb-false (length k.held) k.out_limit h)
-full_if live (gets f) c k e = absurd (go k.waiting k.closed e)
-  where
-    go : (w : List ℕ) (d : Bool) → next_get f k w d ≡ full → ⊥
-    go [] false e = let z : ◌≡◌ {A = ℕ} 0 1 = cc in omega arith
-    go [] true e = let z : ◌≡◌ {A = ℕ} 0 1 = cc in omega arith
-    go (x ∷ w) d e = let z : ◌≡◌ {A = ℕ} 0 1 = cc in omega arith
-full_if live (moves d) c k e = absurd (let z : ◌≡◌ {A = ℕ} 0 1 = cc in let b : ⊥ = omega arith in b)
-full_if live (halts n) c k e = absurd (let z : ◌≡◌ {A = ℕ} 0 1 = cc in let b : ⊥ = omega arith in b)
-full_if live (traps p q r) c k e = absurd (let z : ◌≡◌ {A = ℕ} 0 1 = cc in let b : ⊥ = omega arith in b)
-full_if live (faults f) c k e = absurd (let z : ◌≡◌ {A = ℕ} 0 1 = cc in let b : ⊥ = omega arith in b)
-full_if (over y) a c k e = absurd (let z : ◌≡◌ {A = ℕ} 0 1 = cc in let b : ⊥ = omega arith in b)
+module _ (marks : List Bool) (s : State) where
+  why_get : (f : Heard → Core) (w : List ℕ) (d : Bool) → s.halted ≡ live → try marks s.core ≡ gets f → s.con.waiting ≡ w → s.con.closed ≡ d →
+      Why marks s (next_get f s.con w d)
+  why_get f [] false l a w d = record { live_yet = l; goes_on = f; getc = a; empty = w; open_yet = d }
+  why_get f [] true l a w d = tt
+  why_get f (x ∷ bs) b l a w d = tt
 
-fails_if : (w : fault.Fault) (l : Life) (a : Act) (c : Core) (k : Con) → next_if l a c k ≡ fails w → (l ≡ live) × (a ≡ faults w)
-fails_if w live (faults f) c k e = (refl, cc)
-fails_if w live (gets f) c k e = absurd (go k.waiting k.closed e)
-  where
-    go : (v : List ℕ) (d : Bool) → next_get f k v d ≡ fails w → ⊥
-    go [] false e = let z : ◌≡◌ {A = ℕ} 0 1 = cc in omega arith
-    go [] true e = let z : ◌≡◌ {A = ℕ} 0 1 = cc in omega arith
-    go (x ∷ v) d e = let z : ◌≡◌ {A = ℕ} 0 1 = cc in omega arith
-fails_if w live (puts b d) c k e = absurd (go (has_room k) e)
-  where
-    go : (r : Bool) → cond r (goes (living d (with_held k (k.held ++ b ∷ [])))) full ≡ fails w → ⊥
-    go true e = let z : ◌≡◌ {A = ℕ} 0 1 = cc in omega arith
-    go false e = let z : ◌≡◌ {A = ℕ} 0 1 = cc in omega arith
-fails_if w live (moves d) c k e = absurd (let z : ◌≡◌ {A = ℕ} 0 1 = cc in let b : ⊥ = omega arith in b)
-fails_if w live (halts n) c k e = absurd (let z : ◌≡◌ {A = ℕ} 0 1 = cc in let b : ⊥ = omega arith in b)
-fails_if w live (traps p q r) c k e = absurd (let z : ◌≡◌ {A = ℕ} 0 1 = cc in let b : ⊥ = omega arith in b)
-fails_if w (over y) a c k e = absurd (let z : ◌≡◌ {A = ℕ} 0 1 = cc in let b : ⊥ = omega arith in b)
+  why_put : (b : ℕ) (d : Core) (r : Bool) → s.halted ≡ live → try marks s.core ≡ puts b d → has_room s.con ≡ r →
+      Why marks s (cond r (goes (living d (with_held s.con (s.con.held ++ b ∷ [])))) full)
+  why_put b d true l a r = tt
+  why_put b d false l a r = record { live_yet = l; byte = b; goes_on = d; putc = a; held_up = omega (arith, ltb-false (length s.con.held) s.con.out_limit r) }
 
--- the same where a run stops: n are its steps, m is where the try was made, which changed nothing
-module _ (marks now : List Bool) (s m : State) (n budget : ℕ) (regs cells : List ℕ) (k : Con) (same : now ≡ marks) (left : n < budget) (r : Reaches marks s n m) (kept : Kept m regs cells k) where
-  pub waited : next now m ≡ waits → Runs marks budget s (living (core_of regs m.core.flags m.core.place cells) k) n stop.Waiting
-  waited e =
-      let d = waits_if m.halted (try marks m.core) m.core m.con (subst (λ w. next w m ≡ waits) same e) in
-      record {
-        within = omega arith;
-        reached = subst (λ z. Reaches marks s n z) (sym kept) r;
-        because = (left, subst (λ z. LacksByte marks z) (sym kept) (record { live_yet = d.0; goes_on = d.1.0; getc = d.1.1; empty = d.2; open_yet = d.3 }));
-      }
+  why_act : (l : Life) (a : Act) → s.halted ≡ l → try marks s.core ≡ a → Why marks s (next_if l a s.core s.con)
+  why_act live (moves d) l a = tt
+  why_act live (gets f) l a = why_get f s.con.waiting s.con.closed l a refl refl
+  why_act live (puts b d) l a = why_put b d (has_room s.con) l a refl
+  why_act live (halts n) l a = tt
+  why_act live (traps p q r) l a = tt
+  why_act live (faults f) l a = record { live_yet = l; faulty = a }
+  why_act (over e) act l a = tt
 
-  pub filled_up : next now m ≡ full → Runs marks budget s (living (core_of regs m.core.flags m.core.place cells) k) n stop.Full
-  filled_up e =
-      let d = full_if m.halted (try marks m.core) m.core m.con (subst (λ w. next w m ≡ full) same e) in
-      record {
-        within = omega arith;
-        reached = subst (λ z. Reaches marks s n z) (sym kept) r;
-        because = (left, subst (λ z. LacksSpace marks z) (sym kept) (record { live_yet = d.0; byte = d.1.0; goes_on = d.1.1; putc = d.1.2; held_up = d.2 }));
-      }
+  why : (n : Next) → next marks s ≡ n → Why marks s n
+  why n e = subst (Why marks s) e (why_act s.halted (try marks s.core) refl refl)
 
-  pub failed : (f : fault.Fault) → next now m ≡ fails f → Runs marks budget s (living (core_of regs m.core.flags m.core.place cells) k) n (stop.Finished (Fault f))
-  failed f e =
-      let d = fails_if f m.halted (try marks m.core) m.core m.con (subst (λ w. next w m ≡ fails f) same e) in
-      record {
-        within = omega arith;
-        reached = subst (λ z. Reaches marks s n z) (sym kept) r;
-        because = (left, subst (λ z. FaultsWith marks z f) (sym kept) (record { live_yet = d.0; faulty = d.1 }));
-      }
+-- the try was made at m, at marks that are still those of the start, after n steps
+module _ {marks now : List Bool} {s m : State} {n : ℕ} (same : now ≡ marks) (r : Reaches marks s n m) where
+  pub one_more : {t : State} → next now m ≡ goes t → Reaches marks s (n + 1) t
+  one_more e = rw (add-one n) (snoc r (rw same at e))
+
+  -- a run stops: at a halt or a trap after that step, else where the try changed nothing
+  module _ (budget : ℕ) (left : n < budget) (regs cells : List ℕ) (k : Con) where
+    pub ended : (e : Ending) → (next now m ≡ goes (stopped_with m.core m.con e)) × Kept m regs cells k →
+        Stopped marks budget (n + 1) (stopped_with (core_of regs m.core.flags m.core.place cells) k e) (stop.Finished e) →
+        Runs marks budget s (stopped_with (core_of regs m.core.flags m.core.place cells) k e) (n + 1) (stop.Finished e)
+    ended e d h = record { within = omega arith; reached = one_more (d.0 ∙ ap (λ w. goes (stopped_with w.core w.con e)) (sym d.1)); because = h }
+
+    stops : (w : Stop) → Stopped marks budget n m w → Kept m regs cells k → Runs marks budget s (living (core_of regs m.core.flags m.core.place cells) k) n w
+    stops w h kept = record { within = omega arith; reached = rw kept r; because = rw kept h }
+
+    pub waited : (next now m ≡ waits) × Kept m regs cells k → Runs marks budget s (living (core_of regs m.core.flags m.core.place cells) k) n stop.Waiting
+    waited d = stops stop.Waiting (left, why marks m waits (rw same at d.0)) d.1
+
+    pub filled_up : (next now m ≡ full) × Kept m regs cells k → Runs marks budget s (living (core_of regs m.core.flags m.core.place cells) k) n stop.Full
+    filled_up d = stops stop.Full (left, why marks m full (rw same at d.0)) d.1
+
+    pub failed : (f : Fault) → (next now m ≡ fails f) × Kept m regs cells k →
+        Runs marks budget s (living (core_of regs m.core.flags m.core.place cells) k) n (stop.Finished (Ending.Fault f))
+    failed f d = stops (stop.Finished (Ending.Fault f)) (left, why marks m (fails f) (rw same at d.0)) d.1

@@ -4,7 +4,9 @@ use Rattle.std.specs.Prelude.{◌≡◌, ℕ, ◌+◌, ◌≤◌, Bool, false, L
 use Rattle.arith.specs.declared.flags.Flags.{Flags}
 use Rattle.console.specs.Streams.{Con}
 use Rattle.machine.specs.Steps.{Life, live, over, State, living}
-use Rattle.machine.specs.Tryings.{core_of, Kept}
+use Rattle.machine.specs.Tryings.{Kept}
+use Rattle.machine.specs.Cores.{core_of}
+use Rattle.machine.specs.Parts.{Parts}
 use Rattle.machine.specs.declared.ending.Ending.{Ending}
 use Rattle.machine.specs.declared.ending.Ending.TheVariants.{Halt, Trap, Fault}
 use Rattle.job.specs.Refusals.{number}
@@ -13,6 +15,7 @@ use Rattle.job.specs.declared.Stop.{Stop}
 use Rattle.job.specs.declared.Stop.TheVariants as stop
 use Rattle.job.specs.declared.Reason.{Reason}
 use Rattle.job.specs.declared.Reason.TheVariants as reason
+use Rattle.job.specs.declared.Numbers.{Numbers}
 use Rattle.job.specs.declared.Paused.{Paused}
 use Rattle.job.specs.declared.Outcome.{Outcome}
 use Rattle.job.specs.declared.Outcome.TheVariants as outcome
@@ -36,11 +39,11 @@ stop_of reason.Spent = stop.Spent
 stop_of reason.Waiting = stop.Waiting
 stop_of reason.Full = stop.Full
 
-abbrev pub paused_at : ℕ → Flags → ℕ → Reason → Outcome
-paused_at place flags count why = outcome.Paused (record { at = record { place = place; flags = flags; count = count } }) why
+abbrev pub paused_at : Numbers → Reason → Outcome
+paused_at numbers why = outcome.Paused (record { at = numbers }) why
 
-abbrev pub ended_at : ℕ → Flags → ℕ → Ending → Outcome
-ended_at place flags count ending = outcome.Ended (record { last = record { place = place; flags = flags; count = count }; ending = ending })
+abbrev pub ended_at : Numbers → Ending → Outcome
+ended_at numbers ending = outcome.Ended (record { last = numbers; ending = ending })
 
 -- the state of a job over its registers, cells and console
 abbrev pub state_of_paused : Paused → List ℕ → List ℕ → Con → State
@@ -77,6 +80,7 @@ pub record TurnedDown (p : Paused) (s : State) (budget : ℕ) (regs cells : List
   pub back : r.job ≡ p
   pub kept : Kept s regs cells k
 
-abbrev pub RunSo : List Bool → Paused → State → ℕ → List ℕ → List ℕ → Con → Result Ran Refused → Type 0
-RunSo marks p s budget regs cells k (Ok r) = Accepted marks p s budget regs cells k r
-RunSo marks p s budget regs cells k (Err r) = TurnedDown p s budget regs cells k r
+-- what a run of a job p on a machine with the parts s promises: t are the parts that it leaves
+abbrev pub RunSo : Paused → Parts → ℕ → Parts → Result Ran Refused → Type 0
+RunSo p s budget t (Ok r) = Accepted s.marks p (state_of_paused p s.regs s.cells s.con) budget t.regs t.cells t.con r
+RunSo p s budget t (Err r) = TurnedDown p (state_of_paused p s.regs s.cells s.con) budget t.regs t.cells t.con r

@@ -2,24 +2,26 @@
 #![tactic(auto)]
 
 ghost use Rattle.std.specs.Prelude.{◌≡◌, replicate};
-ghost use Rattle.job.specs.Jobs.{first_job, state_of_paused, paused_at, ended_at, RunSo};
+ghost use Rattle.job.specs.Jobs.{first_job, stop_of, paused_at, ended_at, RunSo};
+ghost use Rattle.machine.specs.Parts.{parts, KeepsParts};
 
 use arith::flags::Flags;
 use console::Console;
-use machine::attempt::{Tried, attempt};
+use machine::attempt::Tried;
 use machine::bank::Bank;
 use machine::ending::Ending;
+use machine::parts::Machine;
 use memory::cells::Memory;
 
 // Why a call on a job is refused: by the limits of a run, or by the console.
-#[derive(Clone, Copy)]
+#[derive(Clone, Copy, PartialEq, Eq, Debug)]
 pub enum Refusal {
     TooManySteps,
     Console(console::Refusal),
 }
 
 // Why a job is paused: its budget is done, nothing is there to be read yet, or no space is left for output.
-#[derive(Clone, Copy)]
+#[derive(Clone, Copy, PartialEq, Eq, Debug)]
 pub enum Reason {
     Spent,
     Waiting,
@@ -27,7 +29,7 @@ pub enum Reason {
 }
 
 // Why a run stopped.
-#[derive(Clone, Copy)]
+#[derive(Clone, Copy, PartialEq, Eq, Debug)]
 pub enum Stop {
     Spent,
     Waiting,
@@ -36,7 +38,7 @@ pub enum Stop {
 }
 
 // The numbers of a job.
-#[derive(Clone, Copy)]
+#[derive(Clone, Copy, Default, PartialEq, Eq, Debug)]
 pub struct Numbers {
     pub place: u64,
     pub flags: Flags,
@@ -79,26 +81,30 @@ pub const MOST_BUDGET: u64 = 1_000_000_000;
 // The most steps of a job.
 pub const MOST_COUNT: u64 = 1_000_000_000_000;
 
-fn paused_at(place: u64, flags: Flags, count: u64, reason: Reason) -> Outcome
-    ensures { result ≡ paused_at place flags count reason }
-{
-    let at = Numbers {
-        place,
-        flags,
-        count,
-    };
-    Outcome::Paused(Paused { at }, reason)
+impl From<Reason> for Stop {
+    ghost from_gives = { λ reason r. r ≡ stop_of reason };
+
+    fn from(reason: Reason) -> Stop {
+        match reason {
+            Reason::Spent => Stop::Spent,
+            Reason::Waiting => Stop::Waiting,
+            Reason::Full => Stop::Full,
+        }
+    }
 }
 
-fn ended_at(place: u64, flags: Flags, count: u64, ending: Ending) -> Outcome
-    ensures { result ≡ ended_at place flags count ending }
-{
-    let last = Numbers {
-        place,
-        flags,
-        count,
-    };
-    Outcome::Ended(Ended { last, ending })
+impl Numbers {
+    fn paused(self, reason: Reason) -> Outcome
+        ensures { result ≡ paused_at self reason }
+    {
+        Outcome::Paused(Paused { at: self }, reason)
+    }
+
+    fn ended(self, ending: Ending) -> Outcome
+        ensures { result ≡ ended_at self ending }
+    {
+        Outcome::Ended(Ended { last: self, ending })
+    }
 }
 
 impl Ended {
@@ -131,18 +137,9 @@ impl Paused {
         ensures cleared { bank.new.regs ≡ replicate 256 0 }
     {
         bank.clear();
-        let flags = Flags {
-            zero: false,
-            carry: false,
-            overflow: false,
-            sign: false,
-        };
-        let at = Numbers {
-            place: 0,
-            flags,
-            count: 0,
-        };
-        Paused { at }
+        Paused {
+            at: Numbers::default(),
+        }
     }
 
     pub fn numbers(&self) -> Numbers
@@ -162,14 +159,11 @@ impl Paused {
     // Runs the job for at most as many steps as the budget.
     pub fn run<M: Memory, C: Console>(
         self,
-        bank: &mut Bank,
-        memory: &mut M,
-        console: &mut C,
+        machine: &mut Machine<'_, '_, '_, M, C>,
         budget: u64,
     ) -> Result<Ran, Refused>
-        ensures marks { M.marks memory.new ≡ M.marks memory.old }
-        ensures loans { M.loans memory.new ≡ M.loans memory.old }
-        ensures ran { RunSo (M.marks memory.old) self (state_of_paused self bank.old.regs (M.cells memory.old) (C.view console.old)) budget bank.new.regs (M.cells memory.new) (C.view console.new) result }
+        ensures kept { KeepsParts M.marks M.loans machine.old machine.new }
+        ensures ran { RunSo self (parts M.marks M.loans M.cells C.view machine.old) budget (parts M.marks M.loans M.cells C.view machine.new) result }
     {
         if budget > MOST_BUDGET || self.at.count > MOST_COUNT - budget {
             return Err(Refused {
@@ -177,36 +171,35 @@ impl Paused {
                 job: self,
             });
         }
-        let Paused { at: start } = self;
-        let mut at = start.place;
-        let mut bits = start.flags;
+        let Paused { mut at } = self;
         let mut steps = 0;
+        // The outcome is the loop's own value, given by `break`: a `for` over the steps has none.
         let outcome = loop {
             if steps >= budget {
-                break paused_at(at, bits, start.count + steps, Reason::Spent);
+                break at.paused(Reason::Spent);
             }
-            match attempt(bank, memory, console, at, bits) {
-                Tried::Went(next, set) => {
-                    at = next;
-                    bits = set;
+            match machine.attempt(at.place, at.flags) {
+                Ok(Tried::Went(place, flags)) => {
+                    at = Numbers {
+                        place,
+                        flags,
+                        count: at.count + 1,
+                    };
                     steps += 1;
                 }
-                Tried::Halts(code) => {
+                Ok(Tried::Halts(code)) => {
+                    at.count += 1;
                     steps += 1;
-                    break ended_at(at, bits, start.count + steps, Ending::Halt(code));
+                    break at.ended(Ending::Halt(code));
                 }
-                Tried::Traps(x, y, z) => {
+                Ok(Tried::Traps(x, y, z)) => {
+                    at.count += 1;
                     steps += 1;
-                    break ended_at(at, bits, start.count + steps, Ending::Trap(x, y, z));
+                    break at.ended(Ending::Trap(x, y, z));
                 }
-                Tried::Waits => break paused_at(at, bits, start.count + steps, Reason::Waiting),
-                Tried::Full => break paused_at(at, bits, start.count + steps, Reason::Full),
-                Tried::Fails(fault) => break ended_at(
-                    at,
-                    bits,
-                    start.count + steps,
-                    Ending::Fault(fault),
-                ),
+                Ok(Tried::Waits) => break at.paused(Reason::Waiting),
+                Ok(Tried::Full) => break at.paused(Reason::Full),
+                Err(fault) => break at.ended(Ending::Fault(fault)),
             }
         };
         Ok(Ran { steps, outcome })

@@ -1,9 +1,10 @@
 -- The line of an instruction is taken for its word.
 use Rattle.std.proofs.Common.{◌≡◌, ℕ, ◌+◌, ◌*◌, ◌/◌, ◌%◌, ◌^◌, ◌<◌, false, cond, eqb, List, [], ◌∷◌, get_or, ℤ, pos, negsuc, ◌*ℤ◌, Some, None, decimal, Option, sym, refl, ap, ◌∙◌, subst, ⊎_elim, arith, w8, w16, w32, to_z, of_z}
-use lib.Signed.{mag}
+use Rattle.std.specs.Int.Signed.{mag}
 use Rattle.std.specs.Fmt.{signed_decimal}
 use Rattle.std.proofs.lemmas.Fmt.{decimal_digit}
-use Rattle.std.proofs.lemmas.Bool.{cases_lt, cond_both, eqb-true}
+use Rattle.std.proofs.lemmas.Option.{none-some, cond_some}
+use Rattle.std.proofs.lemmas.Bool.{cases_lt, eqb-true}
 use Rattle.std.proofs.lemmas.Bool.Decides.{nat_tests}
 use Rattle.arith.specs.declared.width.Width.{Width}
 use Rattle.isa.specs.declared.opcode.Opcode.{Opcode}
@@ -19,8 +20,9 @@ use Rattle.isa.specs.Instructions.{opcode, fields, encoded, Formed}
 use Rattle.isa.specs.Words.{distance_of, if_zero, with_fields, decoded, Decodes}
 use Rattle.isa.proofs.Trips.{from_fields, fields_fit, decoded_encoded, decodes}
 use Rattle.lines.specs.declared.argument.Arguments.TheVariants.{One}
+use Rattle.isa.specs.Scales.{factor}
 use Rattle.lines.specs.Names.{name_of}
-use Rattle.lines.specs.Lines.{immediate, plain, arguments, register, factor, line_with, line_of, Reads, IsWord, HasLine, LinesDiffer}
+use Rattle.lines.specs.Lines.{immediate, plain, arguments, register, line_with, line_of, Reads, IsWord, HasLine, LinesDiffer}
 use Rattle.lines.specs.Pieces.{starts, register_value, number_value}
 use Rattle.lines.specs.Reading.{bases, named_in, scale_read, reach_read, chosen, load_fields, store_fields, one_field, fields_read, word_read, taken_for}
 use Rattle.lines.proofs.Lengths.{jump_ahead, jump_back, small}
@@ -35,9 +37,7 @@ line_pieces o x y z = [] ∷ name_of o ∷ all_parts (arguments o x y z)
 -- the scale, the reach and the source are told from the pieces
 scale_same : (s : Scale) → scale_read (decimal (factor s)) ≡ s
 scale_same Scale.One = ap scale_read (decimal_digit 1 (omega arith))
-scale_same Scale.Two = ap scale_read (decimal_digit 2 (omega arith))
-scale_same Scale.Four = ap scale_read (decimal_digit 4 (omega arith))
-scale_same Scale.Eight = ap scale_read (decimal_digit 8 (omega arith))
+scale_same s = ap scale_read (decimal_digit (factor s) (omega arith))
 
 no_register : (z : ℤ) → mag z < 2 ^ 31 → starts (signed_decimal z) 37 ≡ false
 no_register (pos n) h = no_sign n 37 (omega arith) (omega arith)
@@ -59,28 +59,12 @@ right_opcode : (o : Opcode) (x y z : ℕ) → x < 2 ^ 8 → y < 2 ^ 8 → z < 2 
 right_opcode (Opcode.Load k (Reach.Scaled s)) x y z hx hy hz = ap (Opcode.Load k) (load_reach k (Reach.Scaled s) x y z hx)
 right_opcode (Opcode.Load k Reach.Displaced) x y z hx hy hz = ap (Opcode.Load k) (load_reach k Reach.Displaced x y z hx)
 right_opcode (Opcode.Store Width.Quad r) x y z hx hy hz = ap (Opcode.Store Width.Quad) (store_reach Width.Quad r x y z hy)
-right_opcode (Opcode.Store Width.Long r) x y z hx hy hz = ap (Opcode.Store Width.Long) (store_reach Width.Long r x y z hy)
-right_opcode (Opcode.Store Width.Word r) x y z hx hy hz = ap (Opcode.Store Width.Word) (store_reach Width.Word r x y z hy)
-right_opcode (Opcode.Store Width.Byte r) x y z hx hy hz = ap (Opcode.Store Width.Byte) (store_reach Width.Byte r x y z hy)
-right_opcode (Opcode.Binary o Source.Register) x y z hx hy hz = refl
+right_opcode (Opcode.Store w r) x y z hx hy hz = ap (Opcode.Store w) (store_reach w r x y z hy)
 right_opcode (Opcode.Binary o Source.Immediate) x y z hx hy hz = ap (λ b. Opcode.Binary o (cond b Source.Register Source.Immediate)) (no_register (immediate o x) (omega (arith, (small (Opcode.Binary o Source.Immediate) x y z hx hy hz).0)))
-right_opcode Opcode.AddWithZero x y z hx hy hz = refl
-right_opcode Opcode.AddTriple x y z hx hy hz = refl
-right_opcode Opcode.Or x y z hx hy hz = refl
-right_opcode Opcode.And x y z hx hy hz = refl
-right_opcode Opcode.Not x y z hx hy hz = refl
-right_opcode Opcode.LoadUnsigned x y z hx hy hz = refl
-right_opcode Opcode.LoadSigned x y z hx hy hz = refl
-right_opcode Opcode.ShiftIn x y z hx hy hz = refl
 right_opcode (Opcode.Jump c) x y z hx hy hz = ap (λ b. cond b Opcode.JumpRegister (Opcode.Jump c)) (no_register (words_of (distance_of x y z) *ℤ pos 4) (omega (arith, small (Opcode.Jump c) x y z hx hy hz)))
-right_opcode Opcode.JumpRegister x y z hx hy hz = refl
-right_opcode (Opcode.Halt Source.Register) x y z hx hy hz = refl
 right_opcode (Opcode.Halt Source.Immediate) x y z hx hy hz = ap (λ b. Opcode.Halt (cond b Source.Register Source.Immediate)) (no_register (pos x) (omega arith))
-right_opcode Opcode.Trap x y z hx hy hz = refl
-right_opcode Opcode.Get x y z hx hy hz = refl
-right_opcode (Opcode.Put Source.Register) x y z hx hy hz = refl
 right_opcode (Opcode.Put Source.Immediate) x y z hx hy hz = ap (λ b. Opcode.Put (cond b Source.Register Source.Immediate)) (no_register (pos x) (omega arith))
-right_opcode Opcode.Nothing x y z hx hy hz = refl
+right_opcode o x y z hx hy hz = refl
 
 -- a field from the number that it was written as
 low_byte : (x : ℕ) → x < 2 ^ 8 → number_value (signed_decimal (to_z w8 x)) % 256 ≡ x
@@ -90,14 +74,8 @@ low_positive : (x : ℕ) → x < 2 ^ 8 → number_value (decimal x) % 256 ≡ x
 low_positive x h = ap (λ n. n % 256) (read_number (pos x) (omega arith)) ∙ omega arith
 
 low_immediate : (o : Operation) (x : ℕ) → x < 2 ^ 8 → number_value (signed_decimal (immediate o x)) % 256 ≡ x
-low_immediate Operation.Add x h = low_positive x h
-low_immediate Operation.Subtract x h = low_positive x h
 low_immediate Operation.Multiply x h = low_byte x h
-low_immediate Operation.Divide x h = low_positive x h
-low_immediate Operation.DivideSigned x h = low_positive x h
-low_immediate Operation.ShiftLeft x h = low_positive x h
-low_immediate Operation.ShiftRight x h = low_positive x h
-low_immediate Operation.ShiftRightSigned x h = low_positive x h
+low_immediate o x h = low_positive x h
 
 -- the bits of a wide number, and of four times a distance
 wide_bits : (x y : ℕ) → x < 2 ^ 8 → y < 2 ^ 8 → of_z w32 (to_z w16 (x * 256 + y)) % 2 ^ 16 ≡ x * 256 + y
@@ -133,10 +111,7 @@ wide_right v x y z hx hy hz h e =
 
 -- a field without a meaning is 0 where an instruction is made
 zero_from : (n : ℕ) (i j : Instruction) → if_zero n i ≡ Some j → n ≡ 0
-zero_from n i j e = cond_both (eqb n 0) (Some i) None (λ (o : Option Instruction). o ≡ Some j → n ≡ 0) (λ f g. eqb-true n 0 f) (λ f g. absurd (none g)) e
-  where
-    none : {j : Instruction} → None ≡ Some j → ⊥
-    none g = let z : ◌≡◌ {A = ℕ} 0 1 = cc in omega arith
+zero_from n i j e = eqb-true n 0 (cond_some (eqb n 0) i j e).0
 
 three_right : (x y z : ℕ) → x < 2 ^ 8 → y < 2 ^ 8 → z < 2 ^ 8 → ◌≡◌ {A = ℕ × ℕ × ℕ} (register_value (register x), register_value (register y), register_value (register z)) (x, y, z)
 three_right x y z hx hy hz = triple (read_register x hx) (read_register y hy) (read_register z hz)
@@ -152,12 +127,8 @@ one_right o Source.Immediate x y z hx e = triple (low_positive x hx) (omega arit
 right_fields : (o : Opcode) (x y z : ℕ) (i : Instruction) → x < 2 ^ 8 → y < 2 ^ 8 → z < 2 ^ 8 → with_fields o x y z ≡ Some i → fields_read o (line_pieces o x y z) ≡ (x, y, z)
 right_fields (Opcode.Load k r) x y z i hx hy hz e = load_right k r x y z hx hy hz
 right_fields (Opcode.Store w r) x y z i hx hy hz e = store_right w r x y z hx hy hz
-right_fields (Opcode.Binary o Source.Register) x y z i hx hy hz e = three_right x y z hx hy hz
 right_fields (Opcode.Binary o Source.Immediate) x y z i hx hy hz e = triple (low_immediate o x hx) (read_register y hy) (read_register z hz)
-right_fields Opcode.AddWithZero x y z i hx hy hz e = three_right x y z hx hy hz
 right_fields Opcode.AddTriple x y z i hx hy hz e = triple (low_positive x hx) (read_register y hy) (read_register z hz)
-right_fields Opcode.Or x y z i hx hy hz e = three_right x y z hx hy hz
-right_fields Opcode.And x y z i hx hy hz e = three_right x y z hx hy hz
 right_fields Opcode.Not x y z i hx hy hz e = two_right x y z hx hy (zero_from z _ i e)
 right_fields Opcode.LoadUnsigned x y z i hx hy hz e = wide_right (pos (x * 256 + y)) x y z hx hy hz (omega arith) (omega arith)
 right_fields Opcode.LoadSigned x y z i hx hy hz e = wide_right (to_z w16 (x * 256 + y)) x y z hx hy hz (small Opcode.LoadSigned x y z hx hy hz).0 (wide_bits x y hx hy)
@@ -169,10 +140,10 @@ right_fields (Opcode.Jump c) x y z i hx hy hz e =
     triple (ap (λ k. k / 4 / 65536 % 256) n ∙ b.0) (ap (λ k. k / 4 / 256 % 256) n ∙ b.1) (ap (λ k. k / 4 % 256) n ∙ b.2)
 right_fields Opcode.JumpRegister x y z i hx hy hz e = two_right x y z hx hy (zero_from z _ i e)
 right_fields (Opcode.Halt s) x y z i hx hy hz e = one_right (Opcode.Halt s) s x y z hx (zero_from (y + z) _ i e)
-right_fields Opcode.Trap x y z i hx hy hz e = three_right x y z hx hy hz
 right_fields Opcode.Get x y z i hx hy hz e = one_right Opcode.Get Source.Register x y z hx (zero_from (y + z) _ i e)
 right_fields (Opcode.Put s) x y z i hx hy hz e = one_right (Opcode.Put s) s x y z hx (zero_from (y + z) _ i e)
 right_fields Opcode.Nothing x y z i hx hy hz e = let f = zero_from (x + y + z) _ i e in triple (omega arith) (omega arith) (omega arith)
+right_fields o x y z i hx hy hz e = three_right x y z hx hy hz
 
 -- the word of a line
 right_word : (o : Opcode) (x y z : ℕ) (i : Instruction) → x < 2 ^ 8 → y < 2 ^ 8 → z < 2 ^ 8 → with_fields o x y z ≡ Some i → taken_for (line_with o x y z) ≡ Some (code_of o ∷ x ∷ y ∷ z ∷ [])
@@ -191,17 +162,11 @@ taken i h =
     right_word (opcode i) (fields i).0 (fields i).1 (fields i).2 i b.0 b.1 b.2 (from_fields i h)
 
 -- what a text is read as, once its word is decoded and the line compared
-abbrev Lined : List ℕ → Instruction → Type 0
-Lined text i = Formed i × (line_of i ≡ text)
-
-none_some : {X : Type 0} {x : X} → None ≡ Some x → ⊥
-none_some e = let z : ◌≡◌ {A = ℕ} 0 1 = cc in omega arith
-
 same_some : {X : Type 0} {x y : X} → Some x ≡ Some y → x ≡ y
 same_some e = cc
 
 pub none_guessed : (text : List ℕ) → taken_for text ≡ None → (i : Instruction) → Formed i → line_of i ≡ text → ⊥
-none_guessed text e i h l = none_some (sym e ∙ ap taken_for (sym l) ∙ taken i h)
+none_guessed text e i h l = none-some _ (sym e ∙ ap taken_for (sym l) ∙ taken i h)
 
 -- the instruction whose word was taken is the only one
 pub only : (text w : List ℕ) (r : Option Instruction) → taken_for text ≡ Some w → decoded w ≡ r → (j : Instruction) → Formed j → line_of j ≡ text → r ≡ Some j
@@ -210,7 +175,7 @@ only text w r e d j h l =
     sym d ∙ ap decoded v ∙ decoded_encoded j h
 
 pub none_decoded : (text w : List ℕ) → taken_for text ≡ Some w → decoded w ≡ None → (j : Instruction) → Formed j → line_of j ≡ text → ⊥
-none_decoded text w e d j h l = none_some (only text w None e d j h l)
+none_decoded text w e d j h l = none-some _ (only text w None e d j h l)
 
 pub one_decoded : (text w : List ℕ) (i : Instruction) → taken_for text ≡ Some w → decoded w ≡ Some i → (j : Instruction) → Formed j → line_of j ≡ text → j ≡ i
 one_decoded text w i e d j h l = sym (same_some (only text w (Some i) e d j h l))

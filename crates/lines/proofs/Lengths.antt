@@ -1,6 +1,6 @@
 -- A line has at most 64 bytes.
 use Rattle.std.proofs.Common.{◌≡◌, ℕ, ◌+◌, ◌-◌, ◌*◌, ◌^◌, ◌<◌, ◌≤◌, true, leb, length, ℤ, pos, negsuc, ◌+ℤ◌, ◌*ℤ◌, decimal, sym, refl, ap, ◌∙◌, subst, ⊎_elim, arith, length-append, w8, w16, to_z}
-use lib.Signed.{mag}
+use Rattle.std.specs.Int.Signed.{mag}
 use Rattle.std.proofs.lemmas.Fmt.{length-decimal-le, length_signed_le}
 use Rattle.std.proofs.lemmas.Int.{ints}
 use Rattle.std.proofs.lemmas.Bool.{leb-true, cases_lt}
@@ -18,8 +18,9 @@ use Rattle.lines.specs.declared.argument.Argument.{Argument}
 use Rattle.lines.specs.declared.argument.Argument.TheVariants.{Register, Number, Scaled, Displaced}
 use Rattle.lines.specs.declared.argument.Arguments.{Arguments}
 use Rattle.lines.specs.declared.argument.Arguments.TheVariants.{Zero, One, Two, Three}
+use Rattle.isa.specs.Scales.{factor}
 use Rattle.lines.specs.Names.{name_of}
-use Rattle.lines.specs.Lines.{immediate, plain, address, arguments, register, factor, written, trailing, line_with}
+use Rattle.lines.specs.Lines.{immediate, plain, address, arguments, register, written, trailing, line_with}
 
 -- the names have at most 6 bytes: a test at each opcode
 short_name : (o : Opcode) → leb (length (name_of o)) 6 ≡ true
@@ -40,14 +41,8 @@ AllSmall (Two a b) = Small a × Small b
 AllSmall (Three a b c) = Small a × Small b × Small c
 
 small_immediate : (o : Operation) (x : ℕ) → x < 2 ^ 8 → mag (immediate o x) < 2 ^ 25
-small_immediate Operation.Add x h = omega arith
-small_immediate Operation.Subtract x h = omega arith
 small_immediate Operation.Multiply x h = grind (arith, nat_tests)
-small_immediate Operation.Divide x h = omega arith
-small_immediate Operation.DivideSigned x h = omega arith
-small_immediate Operation.ShiftLeft x h = omega arith
-small_immediate Operation.ShiftRight x h = omega arith
-small_immediate Operation.ShiftRightSigned x h = omega arith
+small_immediate o x h = omega arith
 
 small_plain : (s : Source) (x : ℕ) → x < 2 ^ 8 → Small (plain s x)
 small_plain Source.Register x h = h
@@ -81,12 +76,8 @@ small_jump x y z hx hy hz =
 pub small : (o : Opcode) (x y z : ℕ) → x < 2 ^ 8 → y < 2 ^ 8 → z < 2 ^ 8 → AllSmall (arguments o x y z)
 small (Opcode.Load k r) x y z hx hy hz = (small_address r x y hx hy, hz)
 small (Opcode.Store w r) x y z hx hy hz = (hx, small_address r y z hy hz)
-small (Opcode.Binary o Source.Register) x y z hx hy hz = (hx, hy, hz)
 small (Opcode.Binary o Source.Immediate) x y z hx hy hz = (small_immediate o x hx, hy, hz)
-small Opcode.AddWithZero x y z hx hy hz = (hx, hy, hz)
 small Opcode.AddTriple x y z hx hy hz = (omega arith, hy, hz)
-small Opcode.Or x y z hx hy hz = (hx, hy, hz)
-small Opcode.And x y z hx hy hz = (hx, hy, hz)
 small Opcode.Not x y z hx hy hz = (hx, hy)
 small Opcode.LoadUnsigned x y z hx hy hz = (omega arith, hz)
 small Opcode.LoadSigned x y z hx hy hz = (small_wide x y hx hy, hz)
@@ -94,20 +85,15 @@ small Opcode.ShiftIn x y z hx hy hz = (omega arith, hz)
 small (Opcode.Jump c) x y z hx hy hz = small_jump x y z hx hy hz
 small Opcode.JumpRegister x y z hx hy hz = (hx, hy)
 small (Opcode.Halt s) x y z hx hy hz = small_plain s x hx
-small Opcode.Trap x y z hx hy hz = (hx, hy, hz)
 small Opcode.Get x y z hx hy hz = hx
 small (Opcode.Put s) x y z hx hy hz = small_plain s x hx
 small Opcode.Nothing x y z hx hy hz = tt
+small o x y z hx hy hz = (hx, hy, hz)
 
 -- an operand has at most 13 bytes
-small_factor : (s : Scale) → factor s < 10
-small_factor Scale.One = omega arith
-small_factor Scale.Two = omega arith
-small_factor Scale.Four = omega arith
-small_factor Scale.Eight = omega arith
-
 short_factor : (s : Scale) → length (decimal (factor s)) ≤ 1
-short_factor s = let h = small_factor s in length-decimal-le 1 (factor s) (omega arith) (omega arith) (omega arith)
+short_factor Scale.One = length-decimal-le 1 1 (omega arith) (omega arith) (omega arith)
+short_factor s = length-decimal-le 1 (factor s) (omega arith) (omega arith) (omega arith)
 
 short_register : (n : ℕ) → n < 2 ^ 8 → length (register n) ≤ 4
 short_register n h = omega (arith, length-decimal-le 3 n (omega arith) (omega arith) (omega arith))

@@ -1,5 +1,4 @@
 pub mod Clips
-pub mod Cuts
 pub mod Guesses
 pub mod Lengths
 pub mod Numbers

@@ -1,12 +1,14 @@
 -- The pieces of a line, operand by operand.
-use Rattle.std.proofs.Common.{◌≡◌, ℕ, suc, ◌^◌, ◌<◌, Bool, true, false, not, ◌&&◌, List, [], ◌∷◌, ◌++◌, ℤ, pos, negsuc, codes, decimal, sym, refl, ap, ◌∙◌, append_assoc, append-nil, arith}
-use lib.Signed.{mag}
+use Rattle.std.proofs.Common.{◌≡◌, ℕ, suc, ◌^◌, ◌<◌, Bool, true, not, ◌&&◌, List, [], ◌∷◌, ◌++◌, ℤ, pos, negsuc, codes, decimal, refl, ap, ◌∙◌, append_assoc, append-nil, arith}
+use Rattle.std.specs.Int.Signed.{mag}
 use Rattle.std.specs.Fmt.{signed_decimal}
-use Rattle.std.specs.List.{AllByRecursion as All}
+use Rattle.std.specs.List.{list_all}
+use Rattle.std.proofs.lemmas.List.Sums.{AllPass-from_list_all}
+use Rattle.std.proofs.lemmas.List.Splits.{slice_split_at, slice_split-cons_yes}
 use Rattle.std.specs.Str.Parse.{AllDigits}
 use Rattle.std.specs.Char.{digit_value}
 use Rattle.std.proofs.lemmas.Fmt.{decimal_is_IsNumeral}
-use Rattle.std.proofs.lemmas.Bool.{and_parts}
+use Rattle.std.proofs.lemmas.Bool.{not-true}
 use Rattle.std.proofs.lemmas.Bool.Decides.{nat_tests}
 use Rattle.isa.specs.declared.opcode.Opcode.{Opcode}
 use Rattle.isa.specs.declared.opcode.Scale.{Scale}
@@ -16,43 +18,48 @@ use Rattle.lines.specs.declared.argument.Argument.{Argument}
 use Rattle.lines.specs.declared.argument.Argument.TheVariants.{Register, Number, Scaled, Displaced}
 use Rattle.lines.specs.declared.argument.Arguments.{Arguments}
 use Rattle.lines.specs.declared.argument.Arguments.TheVariants.{Zero, One, Two, Three}
+use Rattle.isa.specs.Scales.{factor}
 use Rattle.lines.specs.Names.{name_of}
-use Rattle.lines.specs.Lines.{arguments, register, factor, written, trailing, line_with}
-use Rattle.lines.specs.Pieces.{separates, onto, pieces}
-use Rattle.lines.proofs.Cuts.{at_separator, at_other}
+use Rattle.lines.specs.Lines.{arguments, register, written, trailing, line_with}
+use Rattle.lines.specs.Pieces.{separates, pieces}
 use Rattle.lines.proofs.Lengths.{Small, AllSmall, small}
 
 -- no byte separates
+abbrev within : ℕ → Bool
+within c = not (separates c)
+
 abbrev Plain : List ℕ → Type 0
-Plain s = All (λ c. separates c ≡ false) s
+Plain s = list_all within s ≡ true
 
 -- a plain text up to a separator is a piece
 cut : (s : List ℕ) (c : ℕ) (rest : List ℕ) → Plain s → separates c ≡ true → pieces (s ++ c ∷ rest) ≡ s ∷ pieces rest
-cut [] c rest p e = at_separator c rest e
-cut (b ∷ s) c rest p e = at_other b (s ++ c ∷ rest) p.0 ∙ ap (onto b) (cut s c rest p.1 e)
+unfolding pieces
+cut s c rest p e = slice_split_at separates s c rest (λ k d l. not-true _ (AllPass-from_list_all within s p k d l)) e
 
-digit_plain : (c : ℕ) → digit_value c < 10 → separates c ≡ false
+at_separator : (c : ℕ) (cs : List ℕ) → separates c ≡ true → pieces (c ∷ cs) ≡ [] ∷ pieces cs
+unfolding pieces
+at_separator c cs e = slice_split-cons_yes separates c cs e
+
+digit_plain : (c : ℕ) → digit_value c < 10 → within c ≡ true
 digit_plain c h = grind (arith, nat_tests)
 
 digits_plain : (s : List ℕ) → AllDigits 10 s → Plain s
-digits_plain [] d = tt
-digits_plain (c ∷ s) d = (digit_plain c d.0, digits_plain s d.1)
+digits_plain [] d = refl
+digits_plain (c ∷ s) d = ap (λ b. b && list_all within s) (digit_plain c d.0) ∙ digits_plain s d.1
 
 decimal_plain : (n : ℕ) → n < 2 ^ 64 → Plain (decimal n)
 decimal_plain n h = digits_plain (decimal n) (decimal_is_IsNumeral n h).0.1
 
 register_plain : (n : ℕ) → n < 2 ^ 8 → Plain (register n)
-register_plain n h = (refl, decimal_plain n (omega arith))
+register_plain n h = decimal_plain n (omega arith)
 
 signed_plain : (z : ℤ) → mag z < 2 ^ 25 → Plain (signed_decimal z)
 signed_plain (pos n) h = decimal_plain n (omega arith)
-signed_plain (negsuc n) h = (refl, decimal_plain (suc n) (omega arith))
+signed_plain (negsuc n) h = decimal_plain (suc n) (omega arith)
 
 factor_plain : (s : Scale) → Plain (decimal (factor s))
 factor_plain Scale.One = decimal_plain 1 (omega arith)
-factor_plain Scale.Two = decimal_plain 2 (omega arith)
-factor_plain Scale.Four = decimal_plain 4 (omega arith)
-factor_plain Scale.Eight = decimal_plain 8 (omega arith)
+factor_plain s = decimal_plain (factor s) (omega arith)
 
 -- the pieces of an operand
 abbrev pub parts : Argument → List (List ℕ)
@@ -131,21 +138,9 @@ line_parts n (Three a b c) p h =
     ∙ ap (λ l. parts a ++ l) (cut_argument b 32 _ h.1 refl ∙ ap (λ l. parts b ++ l) (ended c h.2)))
 
 -- no name has a separator: a test at each opcode
-abbrev plain_test : List ℕ → Bool
-plain_test [] = true
-plain_test (c ∷ s) = not (separates c) && plain_test s
-
-plain_from : (s : List ℕ) → plain_test s ≡ true → Plain s
-plain_from [] e = tt
-plain_from (c ∷ s) e = let b = and_parts (not (separates c)) (plain_test s) e in (not_true (separates c) b.0, plain_from s b.1)
-  where
-    not_true : (b : Bool) → not b ≡ true → b ≡ false
-    not_true true f = sym f
-    not_true false f = refl
-
 name_plain : (o : Opcode) → Plain (name_of o)
 unfolding opcodes
-name_plain o = plain_from (name_of o) (tested (λ p. plain_test (name_of p)) refl o)
+name_plain o = tested (λ p. list_all within (name_of p)) refl o
 
 -- the pieces of a line
 pub pieces_of_line : (o : Opcode) (x y z : ℕ) → x < 2 ^ 8 → y < 2 ^ 8 → z < 2 ^ 8 → pieces (line_with o x y z) ≡ [] ∷ name_of o ∷ all_parts (arguments o x y z)

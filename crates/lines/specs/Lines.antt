@@ -5,12 +5,12 @@ use Rattle.std.proofs.Common.{to_z}
 use Rattle.std.specs.Fmt.{signed_decimal}
 use Rattle.isa.specs.declared.opcode.Opcode.{Opcode}
 use Rattle.isa.specs.declared.opcode.Reach.{Reach}
-use Rattle.isa.specs.declared.opcode.Scale.{Scale}
 use Rattle.isa.specs.declared.opcode.Source.{Source}
 use Rattle.isa.specs.declared.opcode.Operation.{Operation}
 use Rattle.isa.specs.declared.instruction.Instruction.{Instruction}
 use Rattle.isa.specs.Distances.{words_of}
 use Rattle.isa.specs.Instructions.{opcode, fields, Formed}
+use Rattle.isa.specs.Scales.{factor}
 use Rattle.isa.specs.Words.{distance_of, decoded}
 use Rattle.lines.specs.declared.argument.Argument.{Argument}
 use Rattle.lines.specs.declared.argument.Argument.TheVariants.{Register, Number, Scaled, Displaced}
@@ -65,12 +65,6 @@ arguments Opcode.Nothing x y z = Zero
 -- how an operand is written
 abbrev pub register : ℕ → List ℕ
 register n = codes "%" ++ decimal n
-
-abbrev pub factor : Scale → ℕ
-factor Scale.One = 1
-factor Scale.Two = 2
-factor Scale.Four = 4
-factor Scale.Eight = 8
 
 abbrev pub written : Argument → List ℕ
 written (Register n) = register n

@@ -1,5 +1,7 @@
 -- How the code reads a line, from its pieces. No public promise rests on it.
-use Rattle.std.specs.Prelude.{ℕ, ◌+◌, ◌/◌, ◌%◌, Bool, true, false, cond, List, [], ◌∷◌, ◌++◌, map, Some, None, Option, ◌==◌, slice_index_or}
+use Rattle.std.specs.Prelude.{ℕ, ◌+◌, ◌/◌, ◌%◌, Bool, true, false, cond, List, [], ◌∷◌, ◌++◌, map, Some, None, Option}
+use Rattle.std.specs.List.{find}
+use Rattle.std.specs.Str.{bytes_eq}
 use Rattle.arith.specs.declared.width.Width.{Width}
 use Rattle.isa.specs.declared.opcode.Opcode.{Opcode}
 use Rattle.isa.specs.declared.opcode.Reach.{Reach}
@@ -7,7 +9,7 @@ use Rattle.isa.specs.declared.opcode.Scale.{Scale}
 use Rattle.isa.specs.declared.opcode.Source.{Source}
 use Rattle.isa.specs.Opcodes.{code_of, kinds, operations, conditions}
 use Rattle.lines.specs.Names.{name_of}
-use Rattle.lines.specs.Pieces.{pieces, starts, register_value, number_value}
+use Rattle.lines.specs.Pieces.{pieces, piece, starts, register_value, number_value}
 
 -- one opcode for each name
 unfoldable pub bases : List Opcode
@@ -19,25 +21,19 @@ bases =
     (Opcode.AddWithZero ∷ Opcode.AddTriple ∷ Opcode.Or ∷ Opcode.And ∷ Opcode.Not ∷ Opcode.LoadUnsigned ∷ Opcode.LoadSigned ∷ Opcode.ShiftIn ∷
     Opcode.Halt Source.Register ∷ Opcode.Trap ∷ Opcode.Get ∷ Opcode.Put Source.Register ∷ Opcode.Nothing ∷ [])
 
-abbrev pub same : List ℕ → List ℕ → Bool
-same [] [] = true
-same [] (d ∷ ds) = false
-same (c ∷ cs) [] = false
-same (c ∷ cs) (d ∷ ds) = cond (c == d) (same cs ds) false
-
+-- the opcode of a list that has a name
 abbrev pub named_in : List ℕ → List Opcode → Option Opcode
-named_in name [] = None
-named_in name (o ∷ os) = cond (same (name_of o) name) (Some o) (named_in name os)
+named_in name = find (λ o. bytes_eq (name_of o) name)
 
 -- how an address is reached, from the piece that begins it and the second after that
 abbrev pub scale_read : List ℕ → Scale
 scale_read s = cond (starts s 49) Scale.One (cond (starts s 50) Scale.Two (cond (starts s 52) Scale.Four Scale.Eight))
 
 abbrev pub reach_read : List (List ℕ) → ℕ → Reach
-reach_read ps k = cond (starts (slice_index_or ps k []) 37) (Reach.Scaled (scale_read (slice_index_or ps (k + 2) []))) Reach.Displaced
+reach_read ps k = cond (starts (piece ps k) 37) (Reach.Scaled (scale_read (piece ps (k + 2)))) Reach.Displaced
 
 abbrev pub source_read : List (List ℕ) → Source
-source_read ps = cond (starts (slice_index_or ps 2 []) 37) Source.Register Source.Immediate
+source_read ps = cond (starts (piece ps 2) 37) Source.Register Source.Immediate
 
 abbrev pub blank : List ℕ → Bool
 blank [] = true
@@ -46,31 +42,20 @@ blank (c ∷ cs) = false
 -- the opcode of a line, from the one that stands for its name: a load and a store of a quad share a name, and so do a
 -- jump by a distance and one to a register
 abbrev pub chosen : Opcode → List (List ℕ) → Opcode
-chosen (Opcode.Load k r) ps = cond (blank (slice_index_or ps 2 [])) (Opcode.Load k (reach_read ps 3)) (Opcode.Store Width.Quad (reach_read ps 4))
+chosen (Opcode.Load k r) ps = cond (blank (piece ps 2)) (Opcode.Load k (reach_read ps 3)) (Opcode.Store Width.Quad (reach_read ps 4))
 chosen (Opcode.Store w r) ps = Opcode.Store w (reach_read ps 4)
 chosen (Opcode.Binary o s) ps = Opcode.Binary o (source_read ps)
-chosen Opcode.AddWithZero ps = Opcode.AddWithZero
-chosen Opcode.AddTriple ps = Opcode.AddTriple
-chosen Opcode.Or ps = Opcode.Or
-chosen Opcode.And ps = Opcode.And
-chosen Opcode.Not ps = Opcode.Not
-chosen Opcode.LoadUnsigned ps = Opcode.LoadUnsigned
-chosen Opcode.LoadSigned ps = Opcode.LoadSigned
-chosen Opcode.ShiftIn ps = Opcode.ShiftIn
-chosen (Opcode.Jump c) ps = cond (starts (slice_index_or ps 2 []) 37) Opcode.JumpRegister (Opcode.Jump c)
-chosen Opcode.JumpRegister ps = Opcode.JumpRegister
+chosen (Opcode.Jump c) ps = cond (starts (piece ps 2) 37) Opcode.JumpRegister (Opcode.Jump c)
 chosen (Opcode.Halt s) ps = Opcode.Halt (source_read ps)
-chosen Opcode.Trap ps = Opcode.Trap
-chosen Opcode.Get ps = Opcode.Get
 chosen (Opcode.Put s) ps = Opcode.Put (source_read ps)
-chosen Opcode.Nothing ps = Opcode.Nothing
+chosen o ps = o
 
 -- the fields X, Y and Z of a line with an opcode
 abbrev pub reg : List (List ℕ) → ℕ → ℕ
-reg ps k = register_value (slice_index_or ps k [])
+reg ps k = register_value (piece ps k)
 
 abbrev pub num : List (List ℕ) → ℕ → ℕ
-num ps k = number_value (slice_index_or ps k [])
+num ps k = number_value (piece ps k)
 
 abbrev pub three_registers : List (List ℕ) → ℕ × ℕ × ℕ
 three_registers ps = (reg ps 2, reg ps 3, reg ps 4)
@@ -124,4 +109,4 @@ word_read (Some b) ps =
     Some (code_of (chosen b ps) ∷ (fields_read (chosen b ps) ps).0 ∷ (fields_read (chosen b ps) ps).1 ∷ (fields_read (chosen b ps) ps).2 ∷ [])
 
 abbrev pub taken_for : List ℕ → Option (List ℕ)
-taken_for text = word_read (named_in (slice_index_or (pieces text) 1 []) bases) (pieces text)
+taken_for text = word_read (named_in (piece (pieces text) 1) bases) (pieces text)

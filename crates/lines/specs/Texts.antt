@@ -1,9 +1,5 @@
 -- A line while it is written: what does not fit into 64 bytes is left out.
 use Rattle.std.specs.Prelude.{ℕ, List, ◌++◌, take}
-use Rattle.lines.specs.declared.line.Line.{Line}
-
-unfoldable pub text_of : Line → List ℕ
-text_of l = take l.len l.bytes
 
 unfoldable pub clipped : List ℕ → List ℕ → List ℕ
 clipped a b = take 64 (a ++ b)

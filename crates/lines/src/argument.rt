@@ -1,5 +1,5 @@
 // The operands of an instruction as its line has them.
-ghost use Rattle.std.specs.Prelude.{◌≡◌, ◌+◌, ◌*◌, pos, ◌*ℤ◌};
+ghost use Rattle.std.specs.Prelude.{◌≡◌, ℤ, ◌+◌, ◌*◌, pos, ◌*ℤ◌};
 ghost use Rattle.std.specs.Int.{w8, w16};
 ghost use Rattle.std.proofs.Common.{to_z};
 ghost use Rattle.isa.specs.Distances.{words_of};
@@ -9,7 +9,7 @@ ghost use Rattle.lines.specs.Lines.{immediate, plain, address, arguments};
 use isa::distance::Distance;
 use isa::opcode::{Opcode, Operation, Reach, Scale, Source};
 
-#[derive(Clone, Copy)]
+#[derive(Clone, Copy, PartialEq, Eq, Debug)]
 pub enum Argument {
     Register(u8),
     Number(i32),
@@ -19,7 +19,8 @@ pub enum Argument {
     Displaced(i8, u8),
 }
 
-#[derive(Clone, Copy)]
+// As an enum: a list would need a heap, or a buffer with blank operands.
+#[derive(Clone, Copy, PartialEq, Eq, Debug)]
 pub enum Arguments {
     Zero,
     One(Argument),
@@ -27,24 +28,19 @@ pub enum Arguments {
     Three(Argument, Argument, Argument),
 }
 
-fn unsigned(x: u8) -> Argument
-    ensures { result ≡ Argument.Number (pos x) }
+// A number without a sign, or with one.
+fn number<T: Into<i32>>(value: T) -> Argument
+    ensures { (z : ℤ) × T.converts value z × (result ≡ Argument.Number z) }
 {
-    Argument::Number(x as i32)
-}
-
-fn with_sign(x: u8) -> Argument
-    ensures { result ≡ Argument.Number (to_z w8 x) }
-{
-    Argument::Number(x.cast_signed() as i32)
+    Argument::Number(value.into())
 }
 
 fn immediate(operation: Operation, x: u8) -> Argument
     ensures { result ≡ Argument.Number (immediate operation x) }
 {
     match operation {
-        Operation::Multiply => with_sign(x),
-        _ => unsigned(x),
+        Operation::Multiply => number(x.cast_signed()),
+        _ => number(x),
     }
 }
 
@@ -53,30 +49,14 @@ fn plain(source: Source, x: u8) -> Argument
 {
     match source {
         Source::Register => Argument::Register(x),
-        Source::Immediate => unsigned(x),
+        Source::Immediate => number(x),
     }
 }
 
-fn wide(x: u8, y: u8) -> Argument
-    ensures { result ≡ Argument.Number (pos (x * 256 + y)) }
+fn wide(x: u8, y: u8) -> u16
+    ensures { result ≡ x * 256 + y }
 {
-    Argument::Number(u16::from_be_bytes([x, y]) as i32)
-}
-
-fn wide_with_sign(x: u8, y: u8) -> Argument
-    ensures { result ≡ Argument.Number (to_z w16 (x * 256 + y)) }
-{
-    Argument::Number(u16::from_be_bytes([x, y]).cast_signed() as i32)
-}
-
-fn jump(x: u8, y: u8, z: u8) -> Argument
-    ensures { result ≡ Argument.Number (words_of (distance_of x y z) *ℤ pos 4) }
-{
-    let distance = Distance {
-        high: x.cast_signed(),
-        low: u16::from_be_bytes([y, z]),
-    };
-    Argument::Number(distance.bytes())
+    u16::from_be_bytes([x, y])
 }
 
 fn registers(x: u8, y: u8, z: u8) -> Arguments
@@ -105,7 +85,11 @@ pub(crate) fn arguments_of(opcode: Opcode, x: u8, y: u8, z: u8) -> Arguments
     match opcode {
         Opcode::Load(_, reach) => Arguments::Two(address(reach, x, y), Argument::Register(z)),
         Opcode::Store(_, reach) => Arguments::Two(Argument::Register(x), address(reach, y, z)),
-        Opcode::Binary(_, Source::Register) => registers(x, y, z),
+        Opcode::Binary(_, Source::Register)
+        | Opcode::AddWithZero
+        | Opcode::Or
+        | Opcode::And
+        | Opcode::Trap => registers(x, y, z),
         Opcode::Binary(operation, Source::Immediate) => {
             Arguments::Three(
                 immediate(operation, x),
@@ -113,24 +97,23 @@ pub(crate) fn arguments_of(opcode: Opcode, x: u8, y: u8, z: u8) -> Arguments
                 Argument::Register(z),
             )
         }
-        Opcode::AddWithZero => registers(x, y, z),
         Opcode::AddTriple => Arguments::Three(
-            unsigned(x),
+            number(x),
             Argument::Register(y),
             Argument::Register(z),
         ),
-        Opcode::Or => registers(x, y, z),
-        Opcode::And => registers(x, y, z),
-        Opcode::Not => Arguments::Two(Argument::Register(x), Argument::Register(y)),
-        Opcode::LoadUnsigned => Arguments::Two(wide(x, y), Argument::Register(z)),
-        Opcode::LoadSigned => Arguments::Two(wide_with_sign(x, y), Argument::Register(z)),
-        Opcode::ShiftIn => Arguments::Two(wide(x, y), Argument::Register(z)),
-        Opcode::Jump(_) => Arguments::One(jump(x, y, z)),
-        Opcode::JumpRegister => Arguments::Two(Argument::Register(x), Argument::Register(y)),
-        Opcode::Halt(source) => Arguments::One(plain(source, x)),
-        Opcode::Trap => registers(x, y, z),
+        Opcode::Not | Opcode::JumpRegister => {
+            Arguments::Two(Argument::Register(x), Argument::Register(y))
+        }
+        Opcode::LoadUnsigned | Opcode::ShiftIn => {
+            Arguments::Two(number(wide(x, y)), Argument::Register(z))
+        }
+        Opcode::LoadSigned => {
+            Arguments::Two(number(wide(x, y).cast_signed()), Argument::Register(z))
+        }
+        Opcode::Jump(_) => Arguments::One(number(Distance::from([x, y, z]).bytes())),
+        Opcode::Halt(source) | Opcode::Put(source) => Arguments::One(plain(source, x)),
         Opcode::Get => Arguments::One(Argument::Register(x)),
-        Opcode::Put(source) => Arguments::One(plain(source, x)),
         Opcode::Nothing => Arguments::Zero,
     }
 }

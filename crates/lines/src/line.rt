@@ -1,15 +1,48 @@
 // A line of text.
-ghost use Rattle.std.specs.Prelude.{◌≤◌};
+ghost use Rattle.std.specs.Prelude.{◌≡◌, []};
+ghost use Rattle.lines.specs.Texts.{clipped};
 
-pub mod puts;
+use arrayvec::ArrayVec;
+use std::marker::Model;
 
-// The most bytes that a line has room for; the longest, (movzlq (%255 %255 8) %255), has 27.
-pub(crate) const MOST: usize = 64;
+mod puts;
 
-// The text is the bytes up to len.
+// A line is seen as its text. There is room for 64 bytes; the longest, (movzlq (%255 %255 8) %255), has 27.
 #[derive(Drop)]
 pub struct Line {
-    bytes: [u8; 64],
-    len: usize,
-    ghost short: { len ≤ 64 },
+    text: ArrayVec<u8, 64>,
+}
+
+impl Model for Line {
+    ghost use Rattle.std.specs.Prelude.{ℕ, List};
+
+    ghost Value = { List ℕ };
+
+    ghost view = { λ l. l.text.items };
+}
+
+impl Line {
+    pub(crate) fn new() -> Line
+        ensures { result ≡ [] }
+    {
+        Line {
+            text: ArrayVec::new(),
+        }
+    }
+
+    // The text of the line.
+    pub fn as_slice(&self) -> &[u8]
+        ensures { result.now ≡ self.now }
+    {
+        self.text.as_slice()
+    }
+
+    // Puts a text at the end; what has no room is left out.
+    pub(crate) fn put(&mut self, text: &[u8])
+        ensures { self.new ≡ clipped self.old text.now }
+    {
+        let room = self.text.remaining_capacity().min(text.len());
+        // What has room always fits.
+        let _fits = self.text.try_extend_from_slice(&text[..room]);
+    }
 }

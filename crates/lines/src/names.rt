@@ -1,4 +1,4 @@
-// The name of each opcode, and the opcodes that a name may stand for.
+// The name of each opcode. A function for each of its parts and no trait: each is called in one place.
 ghost use Rattle.std.specs.Prelude.{◌≡◌};
 ghost use Rattle.lines.specs.Names.{kind_name, width_name, operation_name, condition_name, name_of};
 

@@ -11,9 +11,7 @@ use isa::word::{decode, encode};
 pub fn write_word(word: [u8; 4], buffer: &mut [u8]) -> Result<usize, LineRefusal>
     ensures { WritesWord (decoded word) buffer.old result buffer.new }
 {
-    let Some(instruction) = decode(word) else {
-        return Err(LineRefusal::NotLegal);
-    };
+    let instruction = decode(word).ok_or(LineRefusal::NotLegal)?;
     write_line(instruction, buffer)
 }
 
@@ -22,8 +20,5 @@ pub fn read_word(text: &[u8]) -> Option<[u8; 4]>
     ensures reads { ReadsWord text.now result }
     ensures differ { LinesDiffer }
 {
-    let Some(instruction) = read_line(text) else {
-        return None;
-    };
-    Some(encode(instruction))
+    Some(encode(read_line(text)?))
 }

@@ -1,7 +1,6 @@
 // Writing the line of an instruction into a lent buffer.
 ghost use Rattle.std.specs.Prelude.{◌≡◌};
 ghost use Rattle.lines.specs.Lines.{line_of, Writes};
-ghost use Rattle.lines.specs.Texts.{text_of};
 
 use crate::argument::arguments_of;
 use crate::line::Line;
@@ -9,7 +8,7 @@ use crate::names::name;
 use isa::instruction::Instruction;
 
 // Why a line is not written.
-#[derive(Clone, Copy)]
+#[derive(Clone, Copy, PartialEq, Eq, Debug)]
 pub enum LineRefusal {
     // the word stands for no instruction
     NotLegal,
@@ -18,16 +17,17 @@ pub enum LineRefusal {
 }
 
 // The line of an instruction.
+#[tactic(auto, using(crate::proofs::Clips::clipped_twice, crate::proofs::Clips::whole, crate::proofs::Lengths::short_line), unfolding(crate::specs::Lines::line_of))]
 pub fn line(instruction: Instruction) -> Line
-    ensures { text_of result ≡ line_of instruction }
+    ensures { result ≡ line_of instruction }
 {
     let opcode = instruction.opcode();
     let (x, y, z) = instruction.fields();
     let mut line = Line::new();
-    line.push(b'(');
+    line.put(b"(");
     line.put(name(opcode));
     line.put_arguments(arguments_of(opcode, x, y, z));
-    line.push(b')');
+    line.put(b")");
     line
 }
 
@@ -38,11 +38,10 @@ pub fn write_line(instruction: Instruction, buffer: &mut [u8]) -> Result<usize, 
 {
     let line = line(instruction);
     let text = line.as_slice();
-    let length = text.len();
-    if buffer.len() < length {
+    // Not get_mut: it does not say what the buffer holds after a write to a range that it lends.
+    if buffer.len() < text.len() {
         return Err(LineRefusal::TooShort);
     }
-    let part = &mut buffer[0..length];
-    part.copy_from_slice(text);
-    Ok(length)
+    buffer[..text.len()].copy_from_slice(text);
+    Ok(text.len())
 }

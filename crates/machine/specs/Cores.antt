@@ -12,6 +12,9 @@ pub record Core : Type 0 where
   pub place : ℕ
   pub cells : List ℕ
 
+abbrev pub core_of : List ℕ → Flags → ℕ → List ℕ → Core
+core_of regs flags place cells = record { regs = regs; flags = flags; place = place; cells = cells }
+
 -- what a getc hears once there is something to hear: a byte, or the end of the input
 pub data Heard : Type 0 where
   found : ℕ → Heard

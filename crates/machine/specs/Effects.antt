@@ -2,8 +2,6 @@
 -- Assumes nothing.
 use Rattle.std.specs.Prelude.{ℕ, ◌+◌, ◌*◌, ◌%◌, ◌^◌, Bool, true, false, cond, not, ◌&&◌, ◌||◌, List, pos, ◌+ℤ◌, ◌*ℤ◌, Some, None, Ok, Err, Option, Result, ◌==◌, bit_and, bit_or}
 use Rattle.arith.specs.declared.flags.Flags.{Flags}
-use Rattle.arith.specs.declared.width.Extension.{Extension}
-use Rattle.arith.specs.declared.width.Width.{Width}
 use Rattle.arith.specs.Flags.{sum_flags, difference_flags, sum_with_flags}
 use Rattle.arith.specs.Whole.{u, signed, word, sum, sum_with, difference, product, divided, divided_signed, shifted_left, shifted_right, shifted_right_signed, complemented, shifted_in}
 use Rattle.arith.specs.Widths.{bytes_of}
@@ -11,10 +9,10 @@ use Rattle.isa.specs.declared.instruction.Address.{Address}
 use Rattle.isa.specs.declared.instruction.Instruction.{Instruction}
 use Rattle.isa.specs.declared.instruction.Operand.{Operand}
 use Rattle.isa.specs.declared.opcode.Condition.{Condition}
-use Rattle.isa.specs.declared.opcode.Kind.{Kind}
 use Rattle.isa.specs.declared.opcode.Operation.{Operation}
-use Rattle.isa.specs.declared.opcode.Scale.{Scale}
 use Rattle.isa.specs.Distances.{words_of}
+use Rattle.isa.specs.Kinds.{width_of, extension_of}
+use Rattle.isa.specs.Scales.{factor}
 use Rattle.access.specs.declared.fault.AccessFault.{AccessFault}
 use Rattle.access.specs.Transfers.{loaded, store_says, after_store}
 use Rattle.machine.specs.declared.fault.Cause.{Cause}
@@ -103,33 +101,9 @@ taken Condition.NotAbove f = f.carry || f.zero
 taken Condition.Above f = not f.carry && not f.zero
 
 -- the address of a load or a store
-abbrev pub factor : Scale → ℕ
-factor Scale.One = 1
-factor Scale.Two = 2
-factor Scale.Four = 4
-factor Scale.Eight = 8
-
 abbrev pub address_in : List ℕ → Address → ℕ
 address_in regs (Address.Scaled base index scale) = (reg regs base + reg regs index * factor scale) % 2 ^ 64
 address_in regs (Address.Displaced d base) = word (d +ℤ u (reg regs base))
-
-abbrev pub width_of : Kind → Width
-width_of Kind.Quad = Width.Quad
-width_of Kind.ZeroLong = Width.Long
-width_of Kind.ZeroWord = Width.Word
-width_of Kind.ZeroByte = Width.Byte
-width_of Kind.SignLong = Width.Long
-width_of Kind.SignWord = Width.Word
-width_of Kind.SignByte = Width.Byte
-
-abbrev pub extension_of : Kind → Extension
-extension_of Kind.Quad = Extension.Zero
-extension_of Kind.ZeroLong = Extension.Zero
-extension_of Kind.ZeroWord = Extension.Zero
-extension_of Kind.ZeroByte = Extension.Zero
-extension_of Kind.SignLong = Extension.Sign
-extension_of Kind.SignWord = Extension.Sign
-extension_of Kind.SignByte = Extension.Sign
 
 abbrev pub loads : List ℕ → Flags → ℕ → Result ℕ AccessFault → Computed
 loads regs flags to (Ok value) = gives regs to value flags

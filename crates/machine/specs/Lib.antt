@@ -2,6 +2,7 @@ pub mod Cores
 pub mod Effects
 pub mod Faults
 pub mod Leavings
+pub mod Parts
 pub mod Registers
 pub mod Steps
 pub mod Tries

@@ -1,13 +1,14 @@
 // One try of an instruction.
 ghost use Rattle.std.specs.Prelude.{◌≡◌};
 ghost use Rattle.isa.specs.Words.{decoded};
-ghost use Rattle.machine.specs.Steps.{living};
-ghost use Rattle.machine.specs.Tries.{bytes_in};
-ghost use Rattle.machine.specs.Tryings.{core_of, Attempted};
+ghost use Rattle.machine.specs.Parts.{parts, KeepsParts};
+ghost use Rattle.access.specs.Transfers.{fetched};
+ghost use Rattle.machine.specs.Tries.{bytes_in, word_at, legal};
+ghost use Rattle.machine.specs.Tryings.{Attempted};
 
-use crate::bank::Bank;
-use crate::execute::{Site, execute};
+use crate::execute::Site;
 use crate::fault::{Cause, Fault};
+use crate::parts::Machine;
 use access::load::fetch;
 use arith::flags::Flags;
 use console::Console;
@@ -15,8 +16,9 @@ use isa::instruction::Instruction;
 use isa::word::decode;
 use memory::cells::Memory;
 
-// How a try comes out: the place and the flags that it goes on with, how it ends the job, or why nothing has changed.
-#[derive(Clone, Copy)]
+// How a try comes out that is no fault: the place and the flags that it goes on with, how it ends the job, or why
+// nothing has changed.
+#[derive(Clone, Copy, PartialEq, Eq, Debug)]
 pub enum Tried {
     Went(u64, Flags),
     Halts(u8),
@@ -25,44 +27,38 @@ pub enum Tried {
     Waits,
     // a putc with no room
     Full,
-    Fails(Fault),
+}
+
+// The word at a place. A fault there has none, and is told with 0 for it.
+fn word_at<M: Memory>(memory: &M, place: u64) -> Result<u32, Fault>
+    ensures { result ≡ word_at place (fetched (M.cells memory.now) place) }
+{
+    fetch(memory, place).map_err(|fault| Fault {
+        cause: Cause::Access(fault),
+        place,
+        word: 0,
+    })
 }
 
 // The instruction that a word stands for, if it is legal.
-fn instruction_of(word: u32) -> Option<Instruction>
-    ensures { result ≡ decoded (bytes_in word) }
+fn instruction_of(place: u64, word: u32) -> Result<Instruction, Fault>
+    ensures { result ≡ legal place word (decoded (bytes_in word)) }
 {
-    decode(word.to_be_bytes())
+    decode(word.to_be_bytes()).ok_or(Fault {
+        cause: Cause::Illegal,
+        place,
+        word,
+    })
 }
 
-// Tries the instruction at a place.
-pub fn attempt<M: Memory, C: Console>(
-    bank: &mut Bank,
-    memory: &mut M,
-    console: &mut C,
-    place: u64,
-    flags: Flags,
-) -> Tried
-    ensures marks { M.marks memory.new ≡ M.marks memory.old }
-    ensures loans { M.loans memory.new ≡ M.loans memory.old }
-    ensures tried { Attempted (M.marks memory.old) (living (core_of bank.old.regs flags place (M.cells memory.old)) (C.view console.old)) bank.new.regs (M.cells memory.new) (C.view console.new) result }
-{
-    match fetch(memory, place) {
-        Ok(word) => match instruction_of(word) {
-            Some(instruction) => {
-                let at = Site { place, word, flags };
-                execute(bank, memory, console, at, instruction)
-            }
-            None => Tried::Fails(Fault {
-                cause: Cause::Illegal,
-                place,
-                word,
-            }),
-        },
-        Err(fault) => Tried::Fails(Fault {
-            cause: Cause::Access(fault),
-            place,
-            word: 0,
-        }),
+impl<M: Memory, C: Console> Machine<'_, '_, '_, M, C> {
+    // Tries the instruction at a place. A fault changes nothing.
+    pub fn attempt(&mut self, place: u64, flags: Flags) -> Result<Tried, Fault>
+        ensures kept { KeepsParts M.marks M.loans self.old self.new }
+        ensures tried { Attempted (parts M.marks M.loans M.cells C.view self.old) place flags (parts M.marks M.loans M.cells C.view self.new) result }
+    {
+        let word = word_at(self.memory, place)?;
+        let instruction = instruction_of(place, word)?;
+        self.execute(Site { place, word, flags }, instruction)
     }
 }

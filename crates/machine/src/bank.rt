@@ -26,14 +26,14 @@ impl Bank {
     pub fn read(&self, register: u8) -> u64
         ensures { result ≡ reg self.now.regs register }
     {
-        self.regs[register as usize]
+        self.regs[usize::from(register)]
     }
 
     pub fn write(&mut self, to: u8, value: u64)
         ensures { self.new.regs ≡ with_reg self.old.regs to value }
     {
         if to != 0 {
-            self.regs[to as usize] = value;
+            self.regs[usize::from(to)] = value;
         }
     }
 }

@@ -27,32 +27,24 @@ fn give(bank: &mut Bank, to: u8, value: u64, flags: Flags) -> Result<Flags, Caus
 fn divide_into(bank: &mut Bank, flags: Flags, a: u64, b: u8, to: u8) -> Result<Flags, Cause>
     ensures { (bank.new.regs, result) ≡ split bank.old.regs (divides bank.old.regs flags b to (divided (reg bank.old.regs b) a)) }
 {
-    match divide(bank.read(b), a) {
-        None => Err(Cause::DivisorZero),
-        Some((quotient, remainder)) => {
-            if bank.read(b.wrapping_add(1)) != 0 {
-                return Err(Cause::HighNotZero);
-            }
-            bank.write(to, quotient);
-            bank.write(to.wrapping_add(1), 0);
-            bank.write(to.wrapping_add(2), remainder);
-            Ok(flags)
-        }
+    let (quotient, remainder) = divide(bank.read(b), a).ok_or(Cause::DivisorZero)?;
+    if bank.read(b.wrapping_add(1)) != 0 {
+        return Err(Cause::HighNotZero);
     }
+    bank.write(to, quotient);
+    bank.write(to.wrapping_add(1), 0);
+    bank.write(to.wrapping_add(2), remainder);
+    Ok(flags)
 }
 
 // Divides the register b with a sign: quotient and remainder go to two registers.
 fn divide_signed_into(bank: &mut Bank, flags: Flags, a: u64, b: u8, to: u8) -> Result<Flags, Cause>
     ensures { (bank.new.regs, result) ≡ split bank.old.regs (divides_signed bank.old.regs flags to (divided_signed (reg bank.old.regs b) a)) }
 {
-    match divide_signed(bank.read(b), a) {
-        None => Err(Cause::DivisorZero),
-        Some((quotient, remainder)) => {
-            bank.write(to, quotient);
-            bank.write(to.wrapping_add(1), remainder);
-            Ok(flags)
-        }
-    }
+    let (quotient, remainder) = divide_signed(bank.read(b), a).ok_or(Cause::DivisorZero)?;
+    bank.write(to, quotient);
+    bank.write(to.wrapping_add(1), remainder);
+    Ok(flags)
 }
 
 pub(crate) fn compute(

@@ -1,7 +1,7 @@
 // How a job ends.
 use crate::fault::Fault;
 
-#[derive(Clone, Copy)]
+#[derive(Clone, Copy, PartialEq, Eq, Debug)]
 pub enum Ending {
     // with a code
     Halt(u8),

@@ -1,22 +1,24 @@
 // One instruction.
-ghost use Rattle.std.specs.Prelude.{◌≡◌, ◌%◌, pos, ◌+ℤ◌, ◌*ℤ◌, if◌then◌else◌};
+ghost use Rattle.std.specs.Prelude.{◌≡◌, ◌%◌, pos, ◌+ℤ◌, ◌*ℤ◌, Ok, if◌then◌else◌};
 ghost use Rattle.arith.specs.Whole.{u, word as word_for, sum};
 ghost use Rattle.isa.specs.Distances.{words_of};
 ghost use Rattle.machine.specs.declared.attempt.Tried.{Tried};
-ghost use Rattle.machine.specs.Effects.{taken, effect};
-ghost use Rattle.machine.specs.Leavings.{Left, leaves, settled, heard, put_tried};
+ghost use Rattle.machine.specs.Effects.{taken};
+ghost use Rattle.machine.specs.Faults.{fault_at};
+ghost use Rattle.machine.specs.Leavings.{Executed, settled, heard, put_tried};
+ghost use Rattle.machine.specs.Parts.{parts, KeepsParts};
 ghost use Rattle.machine.specs.Registers.{reg, with_reg};
-ghost use Rattle.machine.specs.Tryings.{core_of};
 
 use crate::attempt::Tried;
 use crate::bank::Bank;
 use crate::compute::compute;
 use crate::fault::{Cause, Fault};
 use crate::operands::{is_taken, target_of, value_of};
+use crate::parts::Machine;
 use crate::transfer::{load_into, store_from};
-use arith::bits::{and, complement, or};
+use arith::bits::{and, complement, or, shift_in};
 use arith::flags::Flags;
-use arith::loads::{load_signed, load_unsigned, shift_in};
+use arith::signs::word_of;
 use arith::sums::{add_triple, add_with};
 use console::{Console, Full, ReadAnswer};
 use isa::distance::Distance;
@@ -40,18 +42,23 @@ impl Site {
         Tried::Went(self.place.wrapping_add(4), flags)
     }
 
+    // A fault here.
+    pub(crate) fn fault(self, cause: Cause) -> Fault
+        ensures { result ≡ fault_at cause self.place self.word }
+    {
+        Fault {
+            cause,
+            place: self.place,
+            word: self.word,
+        }
+    }
+
     // On to the next word, or a fault here.
-    fn settle(self, outcome: Result<Flags, Cause>) -> Tried
+    fn settle(self, outcome: Result<Flags, Cause>) -> Result<Tried, Fault>
         ensures { result ≡ settled self.place self.word outcome }
     {
-        match outcome {
-            Ok(flags) => self.next(flags),
-            Err(cause) => Tried::Fails(Fault {
-                cause,
-                place: self.place,
-                word: self.word,
-            }),
-        }
+        let flags = outcome.map_err(|cause| self.fault(cause))?;
+        Ok(self.next(flags))
     }
 
     // A register and the flags are set.
@@ -121,52 +128,56 @@ fn low_byte(value: u64) -> u8
     (value % 256) as u8
 }
 
-pub(crate) fn execute<M: Memory, C: Console>(
-    bank: &mut Bank,
-    memory: &mut M,
-    console: &mut C,
-    at: Site,
-    instruction: Instruction,
-) -> Tried
-    ensures marks { M.marks memory.new ≡ M.marks memory.old }
-    ensures loans { M.loans memory.new ≡ M.loans memory.old }
-    ensures left { ◌≡◌ {A = Left} (record { regs = bank.new.regs; cells = M.cells memory.new; con = C.view console.new; tried = result }) (leaves (effect (M.marks memory.old) (core_of bank.old.regs at.flags at.place (M.cells memory.old)) at.word instruction) (core_of bank.old.regs at.flags at.place (M.cells memory.old)) (C.view console.old)) }
-{
-    let flags = at.flags;
-    match instruction {
-        Instruction::Load { kind, address, to } => {
-            at.settle(load_into(bank, memory, flags, kind, address, to))
-        }
-        Instruction::Store {
-            width,
-            from,
-            address,
-        } => at.settle(store_from(bank, memory, flags, width, from, address)),
-        Instruction::Binary {
-            operation,
-            a,
-            b,
-            to,
-        } => at.settle(compute(bank, flags, operation, a, b, to)),
-        Instruction::AddWithZero { a, b, to } => {
-            at.set_both(add_with(bank.read(b), bank.read(a), flags.zero), to, bank)
-        }
-        Instruction::AddTriple { x, b, to } => at.set_both(add_triple(bank.read(b), x), to, bank),
-        Instruction::Or { a, b, to } => at.set(or(bank.read(b), bank.read(a)), to, bank),
-        Instruction::And { a, b, to } => at.set(and(bank.read(b), bank.read(a)), to, bank),
-        Instruction::Not { from, to } => at.set(complement(bank.read(from)), to, bank),
-        Instruction::LoadUnsigned { value, to } => at.set(load_unsigned(value), to, bank),
-        Instruction::LoadSigned { value, to } => at.set(load_signed(value), to, bank),
-        Instruction::ShiftIn { value, to } => at.set(shift_in(bank.read(to), value), to, bank),
-        Instruction::Jump {
-            condition,
-            distance,
-        } => at.jump(condition, distance),
-        Instruction::JumpRegister { target, link } => at.jump_to(target, link, bank),
-        Instruction::Halt { code } => Tried::Halts(low_byte(value_of(bank, code))),
-        Instruction::Trap { x, y, z } => Tried::Traps(x, y, z),
-        Instruction::Get { to } => at.hear(console.read(), to, bank),
-        Instruction::Put { from } => at.after_put(console.put(low_byte(value_of(bank, from)))),
-        Instruction::Nothing => at.next(flags),
+impl<M: Memory, C: Console> Machine<'_, '_, '_, M, C> {
+    // Does an instruction. A fault changes nothing. An instruction is a value that the memory holds, so what it does is
+    // found by a match, which sees that none is missed; closures would have to be made and handed out.
+    pub(crate) fn execute(&mut self, at: Site, instruction: Instruction) -> Result<Tried, Fault>
+        ensures kept { KeepsParts M.marks M.loans self.old self.new }
+        ensures done { Executed (parts M.marks M.loans M.cells C.view self.old) at.place at.flags at.word instruction (parts M.marks M.loans M.cells C.view self.new) result }
+    {
+        let flags = at.flags;
+        let bank = &mut *self.bank;
+        Ok(match instruction {
+            Instruction::Load { kind, address, to } => {
+                at.settle(load_into(bank, self.memory, flags, kind, address, to))?
+            }
+            Instruction::Store {
+                width,
+                from,
+                address,
+            } => at.settle(store_from(bank, self.memory, flags, width, from, address))?,
+            Instruction::Binary {
+                operation,
+                a,
+                b,
+                to,
+            } => at.settle(compute(bank, flags, operation, a, b, to))?,
+            Instruction::AddWithZero { a, b, to } => {
+                at.set_both(add_with(bank.read(b), bank.read(a), flags.zero), to, bank)
+            }
+            Instruction::AddTriple { x, b, to } => at.set_both(
+                add_triple(bank.read(b), x),
+                to,
+                bank,
+            ),
+            Instruction::Or { a, b, to } => at.set(or(bank.read(b), bank.read(a)), to, bank),
+            Instruction::And { a, b, to } => at.set(and(bank.read(b), bank.read(a)), to, bank),
+            Instruction::Not { from, to } => at.set(complement(bank.read(from)), to, bank),
+            Instruction::LoadUnsigned { value, to } => at.set(word_of(value), to, bank),
+            Instruction::LoadSigned { value, to } => at.set(word_of(value), to, bank),
+            Instruction::ShiftIn { value, to } => at.set(shift_in(bank.read(to), value), to, bank),
+            Instruction::Jump {
+                condition,
+                distance,
+            } => at.jump(condition, distance),
+            Instruction::JumpRegister { target, link } => at.jump_to(target, link, bank),
+            Instruction::Halt { code } => Tried::Halts(low_byte(value_of(bank, code))),
+            Instruction::Trap { x, y, z } => Tried::Traps(x, y, z),
+            Instruction::Get { to } => at.hear(self.console.read(), to, bank),
+            Instruction::Put { from } => at.after_put(
+                self.console.put(low_byte(value_of(bank, from))),
+            ),
+            Instruction::Nothing => at.next(flags),
+        })
     }
 }

@@ -5,7 +5,7 @@ ghost use Rattle.machine.specs.declared.fault.Cause.{Cause};
 
 use access::fault::AccessFault;
 
-#[derive(Clone, Copy)]
+#[derive(Clone, Copy, PartialEq, Eq, Debug)]
 pub enum Cause {
     // what is wrong with a fetch, a load or a store
     Access(AccessFault),
@@ -25,7 +25,7 @@ impl From<AccessFault> for Cause {
 }
 
 // A cause with the place of the instruction and its word, which is 0 where none was fetched.
-#[derive(Clone, Copy)]
+#[derive(Clone, Copy, PartialEq, Eq, Debug)]
 pub struct Fault {
     pub cause: Cause,
     pub place: u64,
@@ -33,7 +33,7 @@ pub struct Fault {
 }
 
 impl Fault {
-    // The number that a fault is told by, 101 to 108.
+    // The number that a fault is told by, 101 to 108. It has a name: `u8::from` would not say what number it is.
     pub fn number(self) -> u8
         ensures { result ≡ number self }
     {

@@ -8,4 +8,5 @@ pub mod ending;
 mod execute;
 pub mod fault;
 mod operands;
+pub mod parts;
 mod transfer;

@@ -2,17 +2,19 @@
 ghost use Rattle.std.specs.Prelude.{◌≡◌};
 ghost use Rattle.arith.specs.Widths.{bytes_of};
 ghost use Rattle.access.specs.Transfers.{loaded, store_says, after_store};
-ghost use Rattle.machine.specs.Effects.{loads, address_in, width_of, extension_of};
+ghost use Rattle.isa.specs.Kinds.{width_of, extension_of};
+ghost use Rattle.memory.specs.Slices.{Kept};
+ghost use Rattle.machine.specs.Effects.{loads, address_in};
 ghost use Rattle.machine.specs.Leavings.{split, lifted};
 ghost use Rattle.machine.specs.Registers.{reg};
 
 use crate::bank::Bank;
 use crate::fault::Cause;
-use crate::operands::{address_of, extension, width};
+use crate::operands::address_of;
 use access::load::load;
 use access::store::store;
 use arith::flags::Flags;
-use arith::width::Width;
+use arith::width::{Extension, Width};
 use isa::instruction::Address;
 use isa::opcode::Kind;
 use memory::cells::Memory;
@@ -28,7 +30,7 @@ pub(crate) fn load_into<M: Memory>(
     ensures { (bank.new.regs, result) ≡ split bank.old.regs (loads bank.old.regs flags to (loaded (M.cells memory.now) (address_in bank.old.regs address) (width_of kind) (extension_of kind))) }
 {
     let at = address_of(bank, address);
-    let value = load(memory, at, width(kind), extension(kind))?;
+    let value = load(memory, at, Width::from(kind), Extension::from(kind))?;
     bank.write(to, value);
     Ok(flags)
 }
@@ -43,8 +45,7 @@ pub(crate) fn store_from<M: Memory>(
 ) -> Result<Flags, Cause>
     ensures answer { result ≡ lifted flags (store_says (M.marks memory.old) (address_in bank.now.regs address) size) }
     ensures after { M.cells memory.new ≡ after_store (M.marks memory.old) (M.cells memory.old) (address_in bank.now.regs address) (bytes_of size) (reg bank.now.regs from) }
-    ensures marks { M.marks memory.new ≡ M.marks memory.old }
-    ensures loans { M.loans memory.new ≡ M.loans memory.old }
+    ensures kept { Kept M.marks M.loans memory.old memory.new }
 {
     store(memory, address_of(bank, address), size, bank.read(from))?;
     Ok(flags)

@@ -1,14 +1,17 @@
 -- What a work slice holds, from the cells of the memory that joins it to fixed cells.
 -- Assumes nothing.
 use Rattle.std.proofs.Common.{◌≡◌, ℕ, ◌+◌, ◌-◌, ◌<◌, ◌≤◌, Bool, true, false, cond, List, ◌++◌, length, get_or, drop, set, replicate, sym, refl, ap, ◌∙◌, subst, ⊎_elim, arith, length-append, length-set}
-use lib.ListN.{length-replicate}
-use Rattle.std.proofs.lemmas.List.{append_assoc, take-append-drop, drop_at, set-append_left, set-append_right, get_or_past, get_or-replicate}
-use Rattle.std.proofs.lemmas.Bool.{both_ways, cases_lt}
+use Rattle.std.proofs.lemmas.List.{append-nil, append_assoc, take-append-drop, drop_at, set-append_left, set-append_right, get_or_past, get_or-replicate, length-replicate}
+use Rattle.std.proofs.lemmas.Bool.{both_ways, cases_lt, cond_both}
+use Rattle.std.proofs.lemmas.Bool.Decides.{nat_tests}
 use Rattle.memory.specs.Cells.{join, after_write}
 use Rattle.memory.specs.Laws.{join_marked}
 use Rattle.memory.specs.Slices.{lent, left_out, work_marks, beyond, work_of, work_after}
 use Rattle.memory.proofs.Borders.{get_or_first}
-use Rattle.memory.proofs.Lent.{lent_whole}
+
+-- the cells and the bytes that are none are the whole slice
+lent_whole : (xs : List ℕ) → lent xs ++ left_out xs ≡ xs
+lent_whole xs = grind (arith, nat_tests, append-nil)
 
 -- the cells and the bytes beyond are the fixed cells and the whole work
 whole : (fixed work : List ℕ) → join fixed (lent work) ++ beyond fixed work ≡ fixed ++ work
@@ -46,12 +49,12 @@ module _ (m n at : ℕ) (s : m ≤ 65536) (e : get_or (join (replicate m false) 
   open_second =
       ⊎_elim
       (λ h. absurd (both_ways _
-      (get_or_first (replicate m false) (replicate n true) m at (sym (length-replicate m false)) (rw length-replicate s) h false
+      (get_or_first (replicate m false) (replicate n true) at (rw length-replicate h) (rw length-replicate s) false
       ∙ get_or-replicate m at false false h) e))
       (λ h. h) (cases_lt at m)
 
   open_within : at < length (join (replicate m false) (replicate n true))
-  open_within = ⊎_elim (λ h. h) (λ h. absurd (both_ways _ (get_or_past _ at false h) e)) (cases_lt at _)
+  open_within = grind (arith, get_or_past)
 
 -- both ways of a write
 either : (b : Bool) {X : Type 0} (f : List ℕ → X) (put cells : List ℕ) (x y : X)
@@ -82,9 +85,5 @@ module _ (fixed work : List ℕ) (s : length fixed ≤ 65536) (at byte : ℕ) wh
       let mark = get_or (work_marks fixed work) at false in
       let cells = join fixed (lent work) in
       work_held fixed work fixed' work' _ e
-      (either mark length (set cells at byte) cells (length cells) (length cells) (λ _. length-set cells at byte) refl ∙ alike mark (length cells)) n b
+      (cond_both mark _ _ (λ l. length l ≡ length cells) (λ _. length-set cells at byte) (λ _. refl)) n b
       ∙ either mark (work_of fixed work) (set cells at byte) cells _ _ work_put (work_same fixed work)
-    where
-      alike : (c : Bool) (k : ℕ) → cond c k k ≡ k
-      alike true k = refl
-      alike false k = refl

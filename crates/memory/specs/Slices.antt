@@ -1,6 +1,6 @@
 -- Slices that are lent as memories.
 -- Assumes nothing.
-use Rattle.std.specs.Prelude.{ℕ, ◌-◌, Bool, true, false, cond, List, [], ◌++◌, length, drop, replicate, nat_le, slice_index_or, slice_set}
+use Rattle.std.specs.Prelude.{◌≡◌, ℕ, ◌-◌, Bool, true, false, cond, List, [], ◌++◌, length, drop, replicate, nat_le, slice_index_or, slice_set}
 use Rattle.memory.specs.Cells.{join}
 
 -- the cells that a slice makes: one that is too large is taken as empty
@@ -15,6 +15,10 @@ left_out bytes = cond (nat_le (length bytes) 65536) [] bytes
 -- that are no cells. With the cells it tells a lender what its slice holds.
 abbrev pub Loans : Type 0
 Loans = List ℕ × List ℕ
+
+-- from before to after, the marks of a memory stay and its loans too
+abbrev pub Kept : {M : Type 0} → (M → List Bool) → (M → Loans) → M → M → Type 0
+Kept marks loans before after = (marks after ≡ marks before) × (loans after ≡ loans before)
 
 -- the loans of two memories as one, from their cells and loans: what is cut off is no cell any more
 abbrev pub joined_loans : List ℕ → List ℕ → Loans → Loans → Loans

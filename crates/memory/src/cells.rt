@@ -1,7 +1,7 @@
 // What every memory is and does.
 ghost use Rattle.std.specs.Prelude.{◌≡◌, ℕ, ◌≤◌, Bool, List, length, take, drop};
 ghost use Rattle.memory.specs.Cells.{read_at, write_says, after_write};
-ghost use Rattle.memory.specs.Slices.{Loans};
+ghost use Rattle.memory.specs.Slices.{Loans, Kept};
 
 // What a memory says of a cell that it does not read or write.
 #[derive(Clone, Copy, PartialEq, Eq, Debug)]
@@ -56,6 +56,5 @@ pub trait Memory {
     fn write(&mut self, at: u64, byte: u8) -> Result<(), CellFault>
         ensures answer { result ≡ write_says (marks self.old) at }
         ensures after { cells self.new ≡ after_write (marks self.old) (cells self.old) at byte }
-        ensures kept { marks self.new ≡ marks self.old }
-        ensures loaned { loans self.new ≡ loans self.old };
+        ensures kept { Kept marks loans self.old self.new };
 }

@@ -5,15 +5,23 @@ ghost use Rattle.memory.specs.Slices.{lent};
 ghost use Rattle.memory.specs.Laws.{lent_bounded};
 
 use crate::cells::{CellFault, Memory};
-use crate::slices::{read_from, size_of, stretch_of};
-
-mod making;
+use crate::slices::{read_from, size_of, stretch_of, writable_in};
 
 // A slice of which no cell may be written. It is held whole and has no ghost field for its length: beside a `&mut`
 // in a joined memory such a field would hide what the lender's slice holds.
 #[derive(Drop)]
 pub struct Fixed<'a> {
     bytes: &'a [u8],
+}
+
+impl<'a> Fixed<'a> {
+    pub fn new(bytes: &'a [u8]) -> Fixed<'a>
+        ensures cells { ⟦<Fixed<'a> as Memory>⟧.cells result ≡ lent bytes.now }
+        ensures marks { ⟦<Fixed<'a> as Memory>⟧.marks result ≡ replicate (length (lent bytes.now)) false }
+        ensures loans { ⟦<Fixed<'a> as Memory>⟧.loans result ≡ ([], []) }
+    {
+        Fixed { bytes }
+    }
 }
 
 impl<'a> Memory for Fixed<'a> {
@@ -43,11 +51,7 @@ impl<'a> Memory for Fixed<'a> {
     }
 
     fn writable(&self, at: u64) -> Result<(), CellFault> {
-        if at < self.size() as u64 {
-            Err(CellFault::Shut)
-        } else {
-            Err(CellFault::Outside)
-        }
+        writable_in(self.bytes, at, false)
     }
 
     fn write(&mut self, at: u64, _byte: u8) -> Result<(), CellFault> {

@@ -11,7 +11,7 @@ pub enum Refusal {
 }
 
 impl Refusal {
-    // The number that a refusal is told by.
+    // The number that the refused call hands back. It has a name: `u8::from` would not say what number it is.
     pub fn number(self) -> u8
         ensures { result ≡ number self }
     {

@@ -6,8 +6,10 @@ ghost use Rattle.memory.specs.Slices.{lent, left_out};
 ghost use Rattle.memory.specs.Laws.{lent_bounded};
 
 use crate::cells::{CellFault, Memory};
-use crate::slices::{read_from, size_of, stretch_of};
+use crate::slices::{read_from, size_of, stretch_of, writable_in};
 
+// The reads of a fixed slice and of this one stand once, in `slices`. Its marks, loans and writes are its own, so the
+// impls are two.
 impl<'a> Memory for &'a mut [u8] {
     ghost cells = { λ m. lent m.now };
 
@@ -35,19 +37,13 @@ impl<'a> Memory for &'a mut [u8] {
     }
 
     fn writable(&self, at: u64) -> Result<(), CellFault> {
-        if at < self.size() as u64 {
-            Ok(())
-        } else {
-            Err(CellFault::Outside)
-        }
+        writable_in(self, at, true)
     }
 
     fn write(&mut self, at: u64, byte: u8) -> Result<(), CellFault> {
-        if at < self.size() as u64 {
-            self[at as usize] = byte;
-            Ok(())
-        } else {
-            Err(CellFault::Outside)
-        }
+        self.writable(at)?;
+        // no `From` leads from u64 to usize
+        self[at as usize] = byte;
+        Ok(())
     }
 }

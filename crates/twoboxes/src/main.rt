@@ -7,6 +7,7 @@ use consoles::page::Page;
 use consoles::tray::Tray;
 use machine::bank::Bank;
 use machine::ending::Ending;
+use machine::parts::Machine;
 use memory::joined::Joined;
 use std::alloc::{AllocError, Global};
 use std::io;
@@ -51,7 +52,7 @@ const WHOLE: &[u8] =
     b"Two boxes read one document.\nAnd each has its own way to read it.\nMemories of one may be joined from two.\nPieces are fed to the other as they come.\nEvery key that they print is the same.\nDone.\n";
 
 // What a job came to: its key, the steps that it made, and the code that it halted with.
-#[derive(Clone, Copy)]
+#[derive(Clone, Copy, PartialEq, Eq)]
 struct Report {
     taken: usize,
     count: u64,
@@ -75,14 +76,6 @@ fn settle(performed: Result<Performed, AllocError>) -> Result<Report, AllocError
         count: numbers.count,
         code,
     })
-}
-
-fn front(bytes: &[u8], most: usize) -> &[u8] {
-    if most < bytes.len() {
-        &bytes[..most]
-    } else {
-        bytes
-    }
 }
 
 // The second box's calls: the document in two pieces, and a few hundred steps at a time.
@@ -130,16 +123,22 @@ fn on_two_boxes(
     let mut output_buffer = [0u8; 2];
     let mut tray = Tray::new(&mut input_buffer, &mut output_buffer);
     let mut other_bank = Bank::new();
+    let mut machine = Machine {
+        bank: &mut bank,
+        memory: &mut memory,
+        console: &mut page,
+    };
+    let mut other = Machine {
+        bank: &mut other_bank,
+        memory: &mut joined,
+        console: &mut tray,
+    };
     both(
         heap,
-        &mut bank,
-        &mut memory,
-        &mut page,
+        &mut machine,
         &[Call::Run(1_000_000), Call::Take(64)],
         key,
-        &mut other_bank,
-        &mut joined,
-        &mut tray,
+        &mut other,
         &by_and_by(),
         other_key,
     )
@@ -153,8 +152,8 @@ fn main(rt: HostRuntime) -> io::Result<()> {
     let first = settle(first);
     let second = settle(second);
     let (first, second) = (first?, second?);
-    let key = front(&key, first.taken);
-    let other_key = front(&other_key, second.taken);
+    let key = key.get(..first.taken).unwrap_or(&key);
+    let other_key = other_key.get(..second.taken).unwrap_or(&other_key);
     println!(out;
         "one memory, one run: key {key:?}, {} steps, halt {:?}",
         first.count, first.code
@@ -163,7 +162,7 @@ fn main(rt: HostRuntime) -> io::Result<()> {
         "joined, in pieces:   key {other_key:?}, {} steps, halt {:?}",
         second.count, second.code
     )?;
-    if key == other_key && first.count == second.count && first.code == second.code {
+    if key == other_key && first == second {
         println!(out; "the same key, count and ending")
     } else {
         println!(out; "not the same")

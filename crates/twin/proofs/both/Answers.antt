@@ -1,9 +1,5 @@
 use Rattle.twin.proofs.Judged.{judged}
 use Rattle.twin.proofs.both.Goals as goal
 
-pub returns : goal.returns
-returns g c = record {
-  first = c.perform-first.ensures;
-  second = c.perform-second.ensures;
-  alike = judged _ _ _ _ _ _ _ _ c.perform-first.ensures c.perform-second.ensures;
-}
+pub returns-clause-alike : goal.returns-clause-alike
+returns-clause-alike g c = judged _ _ _ _ _ _ _ _ c.perform-first.ensures.performed c.perform-second.ensures.performed

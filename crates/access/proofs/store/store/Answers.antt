@@ -1,20 +1,9 @@
-use Rattle.std.proofs.Common.{ap, ◌∙◌}
-use Rattle.access.specs.declared.fault.Access.{Access}
-use Rattle.access.specs.Faults.{told}
+use Rattle.std.proofs.Common.{rules}
 use Rattle.access.proofs.Keeps.{keeps}
 use Rattle.access.proofs.store.store.Goals as goal
 
-pub returns : goal.returns
-returns g c =
-    let done = c.of_width.ensures in
-    let answer = c.tell.ensures ∙ ap (told Access.Store c.args.at c.args.width) done.answer in
+pub returns-clause-laws : goal.returns-clause-laws
+returns-clause-laws g c =
     let memory = c.args.memory.now in
-    record {
-      answer = answer;
-      after = done.after;
-      kept = done.kept;
-      loaned = done.loaned;
-      laws =
-          keeps (g.M.Memory.marks memory) (g.M.Memory.cells memory) (g.M.Memory.marked memory) c.args.at c.args.width c.args.value
-          _ _ done.after answer;
-    }
+    keeps (g.M.Memory.marks memory) (g.M.Memory.cells memory) (g.M.Memory.marked memory) c.args.at c.args.width c.args.value
+    _ _ (search rules) (search rules)

@@ -1,15 +1,14 @@
 use Rattle.std.proofs.Common.{◌≡◌, length, get_or, sym, ap, ◌∙◌}
-use Rattle.memory.specs.Cells.{write_says}
 use Rattle.memory.specs.Laws.{lent_bounded}
-use Rattle.memory.specs.Slices.{lent, work_marks, work_after}
+use Rattle.memory.specs.Slices.{lent, work_after}
 use Rattle.memory.proofs.Lenders.{work_written}
 use Rattle.memory.proofs.through.write_through.Goals as goal
 
-pub returns : goal.returns
-returns c =
+pub returns-clause-work : goal.returns-clause-work
+returns-clause-work c =
     let made = c.new-memory.result in
     let after = c.write.new.self in
-    let loaned = c.write.ensures.loaned in
+    let loaned = c.write.ensures.kept.1 in
     let back = c.work-1.given in
     let fixed : lent made.first.bytes.now ≡ lent c.args.rule.now =
     ap (λ m. lent m.bytes.now) c.new-memory.ensures.first ∙ c.new.ensures.cells
@@ -17,18 +16,9 @@ returns c =
     let work : made.second.now ≡ c.args.work.now = ap (λ m. m.now) c.new-memory.ensures.second in
     let same = sym (ap (λ l. get_or l.0 0 0) loaned ∙ ap (λ m. m.ghost_name) c.new-memory.ensures.second) in
     let held = back.1.1 same in
-    let written =
-    work_written (lent made.first.bytes.now) made.second.now (lent_bounded made.first.bytes.now) c.args.at c.args.byte
+    held
+    ∙ work_written (lent made.first.bytes.now) made.second.now (lent_bounded made.first.bytes.now) c.args.at c.args.byte
     (lent after.first.bytes.now) after.second.now c.write.ensures.after
     (ap length (sym held) ∙ back.1.0 ∙ ap length (sym work)) (ap (λ l. l.1) loaned)
-    in
-    record {
-      answer =
-          c.write.ensures.answer
-          ∙ ap (λ l. write_says (work_marks l made.second.now) c.args.at) fixed
-          ∙ ap (λ w. write_says (work_marks (lent c.args.rule.now) w) c.args.at) work;
-      work =
-          held ∙ written
-          ∙ ap (λ l. work_after l made.second.now c.args.at c.args.byte) fixed
-          ∙ ap (λ w. work_after (lent c.args.rule.now) w c.args.at c.args.byte) work;
-    }
+    ∙ ap (λ l. work_after l made.second.now c.args.at c.args.byte) fixed
+    ∙ ap (λ w. work_after (lent c.args.rule.now) w c.args.at c.args.byte) work

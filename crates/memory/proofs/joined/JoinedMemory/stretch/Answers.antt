@@ -1,16 +1,15 @@
-use Rattle.std.proofs.Common.{length, take, drop, sym, ap, ◌∙◌}
-use Rattle.memory.specs.Cells.{join}
+use Rattle.std.proofs.Common.{arith}
 use Rattle.memory.proofs.Stretches.{stretch-first, stretch-second}
 use Rattle.memory.proofs.joined.JoinedMemory.stretch.Goals as goal
 
-pub returns-in-First : goal.returns-in-First
-returns-in-First g c =
-    let first = c.args.self.now.first in
-    stretch-first (g.F.Memory.cells first) (g.S.Memory.cells c.args.self.now.second) _ c.size.result c.args.at c.size.ensures (g.F.Memory.bounded first) c.in-First.ensures c.stretch.ensures
+pub returns-in-Ok-First : goal.returns-in-Ok-First
+returns-in-Ok-First g c = grind (arith, stretch-first, g.F.Memory.bounded c.args.self.now.first)
 
-pub returns-in-Second : goal.returns-in-Second
-returns-in-Second g c =
-    let cells = join (g.F.Memory.cells c.args.self.now.first) (g.S.Memory.cells c.args.self.now.second) in
-    c.front.ensures
-    ∙ stretch-second (g.F.Memory.cells c.args.self.now.first) (g.S.Memory.cells c.args.self.now.second) _ c.size.result c.args.at c.in-Second.place c.size.ensures c.in-Second.ensures c.stretch-in-Second.ensures
-    ∙ ap (λ l. take (length l) (drop c.args.at cells)) (sym c.front.ensures)
+pub returns-in-Ok-Second : goal.returns-in-Ok-Second
+returns-in-Ok-Second g c =
+    let first = g.F.Memory.cells c.args.self.now.first in
+    let second = g.S.Memory.cells c.args.self.now.second in
+    let cells = c.stretch-in-Ok-Second.result.now in
+    let lies = rw c.in-Ok-Second.field-0-is at c.in-Ok-Second.ensures in
+    let stretch = rw (lies.2, c.size.ensures) at c.stretch-in-Ok-Second.ensures in
+    rw c.front.ensures (stretch-second first second cells c.args.at (omega arith) lies.1 stretch)

@@ -1,69 +1,33 @@
-use Rattle.std.proofs.Common.{◌++◌, drop, sym, refl, ap, ◌∙◌, arith}
-use Rattle.memory.specs.Cells.{join}
-use Rattle.memory.proofs.Borders.{says_first, says_second, says_neither, after_first, after-second, after_neither, rest-first, rest-second, loans_first, loans_second}
+use Rattle.std.proofs.Common.{sym, ◌∙◌, rules, arith}
+use Rattle.memory.proofs.Borders.{says_first, says_second, says_neither, after_first, after-second, after_neither, loans_first, loans_second, rest-first, rest-second}
 use Rattle.memory.proofs.joined.JoinedMemory.write.Goals as goal
 
-pub returns-in-First : goal.returns-in-First
-returns-in-First g c =
-    let first = c.args.self.now.first in
-    let second = c.args.self.now.second in
-    let bounded = g.F.Memory.bounded first in
-    let border = c.size.ensures in
-    let marked = border ∙ sym (g.F.Memory.marked first) in
-    let ms = g.F.Memory.marks first in
-    let ns = g.S.Memory.marks second in
-    let xs = g.F.Memory.cells first in
-    let ys = g.S.Memory.cells second in
-    let lies = c.in-First.ensures in
-    let put = c.write.ensures in
-    record {
-      answer = put.answer ∙ sym (says_first ms ns c.size.result c.args.at marked (omega arith) lies);
-      after =
-          ap (λ l. join l ys) put.after
-          ∙ sym (after_first ms ns xs ys c.size.result c.args.at c.args.byte border marked bounded lies);
-      kept = ap (λ l. join l ns) put.kept;
-      loaned =
-          loans_first xs ys (g.F.Memory.loans first) (g.S.Memory.loans second) (g.F.Memory.cells c.write.new.self) (g.F.Memory.loans c.write.new.self)
-          (ap (λ l. drop 65536 (l ++ ys)) put.after
-          ∙ rest-first ms ns xs ys c.size.result c.args.at c.args.byte border marked bounded lies) put.loaned;
-    }
+pub returns-in_err-locate-clause-answer : goal.returns-in_err-locate-clause-answer
+returns-in_err-locate-clause-answer g c = rw (says_neither _ _ c.args.at c.in_err-locate.ensures.0) (search rules)
 
-pub returns-in-Second : goal.returns-in-Second
-returns-in-Second g c =
+pub returns-in_err-locate-clause-after : goal.returns-in_err-locate-clause-after
+returns-in_err-locate-clause-after g c =
     let first = c.args.self.now.first in
     let second = c.args.self.now.second in
-    let border = c.size.ensures in
-    let marked = border ∙ sym (g.F.Memory.marked first) in
-    let ms = g.F.Memory.marks first in
-    let ns = g.S.Memory.marks second in
-    let xs = g.F.Memory.cells first in
-    let ys = g.S.Memory.cells second in
-    let lies = c.in-Second.ensures in
-    let put = c.write-in-Second.ensures in
-    let after = c.write-in-Second.new.self in
-    record {
-      answer = put.answer ∙ sym (says_second ms ns c.size.result c.args.at c.in-Second.place marked lies);
-      after =
-          ap (λ l. join xs l) put.after
-          ∙ sym (after-second ms ns xs ys c.size.result c.args.at c.args.byte c.in-Second.place border marked lies);
-      kept = ap (λ l. join ms l) put.kept;
-      loaned =
-          loans_second xs ys (g.F.Memory.loans first) (g.S.Memory.loans second) (g.S.Memory.cells after) (g.S.Memory.loans after)
-          (ap (λ l. drop 65536 (xs ++ l)) put.after
-          ∙ rest-second ms ns xs ys c.size.result c.args.at c.args.byte c.in-Second.place border marked lies) put.loaned;
-    }
+    sym (after_neither (g.F.Memory.marks first) (g.S.Memory.marks second) (g.F.Memory.cells first) (g.S.Memory.cells second) c.args.at c.args.byte c.in_err-locate.ensures.0)
 
-pub returns-in-Neither : goal.returns-in-Neither
-returns-in-Neither g c =
-    let first = c.args.self.now.first in
-    let second = c.args.self.now.second in
-    let ms = g.F.Memory.marks first in
-    let ns = g.S.Memory.marks second in
-    let lies = c.in-Neither.ensures in
-    record {
-      answer = sym (says_neither ms ns c.size.result c.args.at lies);
-      after =
-          sym (after_neither ms ns (g.F.Memory.cells first) (g.S.Memory.cells second) c.size.result c.args.at c.args.byte lies);
-      kept = refl;
-      loaned = refl;
-    }
+pub returns-in-First-clause-answer : goal.returns-in-First-clause-answer
+returns-in-First-clause-answer g c = let first = c.args.self.now.first in grind (arith, says_first, g.F.Memory.bounded first, g.F.Memory.marked first)
+
+pub returns-in-First-clause-after : goal.returns-in-First-clause-after
+returns-in-First-clause-after g c = let first = c.args.self.now.first in grind (arith, after_first, g.F.Memory.bounded first, g.F.Memory.marked first)
+
+pub returns-in-First-clause-kept : goal.returns-in-First-clause-kept
+returns-in-First-clause-kept g c = let first = c.args.self.now.first in grind (arith, loans_first, rest-first, g.F.Memory.bounded first, g.F.Memory.marked first)
+
+pub returns-in-Second-clause-answer : goal.returns-in-Second-clause-answer
+returns-in-Second-clause-answer g c =
+    let marked = g.F.Memory.marked c.args.self.now.first in
+    let lies = rw c.in-Second.is at c.in_ok-locate.ensures in
+    c.write-in-Second.ensures.answer ∙ sym (says_second _ _ c.args.at c.in-Second.place (omega arith) lies.1 (omega arith))
+
+pub returns-in-Second-clause-after : goal.returns-in-Second-clause-after
+returns-in-Second-clause-after g c = grind (arith, after-second, g.F.Memory.marked c.args.self.now.first)
+
+pub returns-in-Second-clause-kept : goal.returns-in-Second-clause-kept
+returns-in-Second-clause-kept g c = grind (arith, loans_second, rest-second, g.F.Memory.marked c.args.self.now.first)
