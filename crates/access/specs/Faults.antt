@@ -7,10 +7,14 @@ use Rattle.access.specs.declared.fault.Access.{Access}
 use Rattle.access.specs.declared.fault.AccessFault.{AccessFault}
 use Rattle.access.specs.declared.fault.Cause.{Cause}
 
+-- a cause, with the access that met it
+abbrev pub fault_of : Access → ℕ → Width → Cause → AccessFault
+fault_of access at width why = record { access = access; address = at; width = width; cause = why }
+
 -- what became of an access, with the access named where it failed
 abbrev pub told : {X : Type 0} → Access → ℕ → Width → Result X Cause → Result X AccessFault
 told access at width (Ok value) = Ok value
-told access at width (Err why) = Err record { access = access; address = at; width = width; cause = why }
+told access at width (Err why) = Err (fault_of access at width why)
 
 -- the numbers of what is wrong with a fetch, which meets no shut cell, and with a load or a store
 abbrev pub fetch_number : Cause → ℕ

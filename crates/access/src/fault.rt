@@ -1,6 +1,6 @@
 // What can be wrong with an access.
 ghost use Rattle.std.specs.Prelude.{◌≡◌};
-ghost use Rattle.access.specs.Faults.{number};
+ghost use Rattle.access.specs.Faults.{fault_of, number};
 ghost use Rattle.access.specs.declared.fault.Cause.{Cause};
 
 use arith::width::Width;
@@ -37,6 +37,20 @@ pub struct AccessFault {
     pub address: u64,
     pub width: Width,
     pub cause: Cause,
+}
+
+impl Cause {
+    // The fault of an access that met it.
+    pub(crate) fn met_by(self, access: Access, address: u64, width: Width) -> AccessFault
+        ensures { result ≡ fault_of access address width self }
+    {
+        AccessFault {
+            access,
+            address,
+            width,
+            cause: self,
+        }
+    }
 }
 
 impl AccessFault {

@@ -21,12 +21,7 @@ pub fn load<M: Memory>(
 {
     number_at(memory, at, width)
         .map(|number| widen(extension, width, number))
-        .map_err(|cause| AccessFault {
-            access: Access::Load,
-            address: at,
-            width,
-            cause,
-        })
+        .map_err(|cause| cause.met_by(Access::Load, at, width))
 }
 
 // The word of an instruction, which lies in four cells.
@@ -35,15 +30,12 @@ pub fn fetch<M: Memory>(memory: &M, at: u64) -> Result<u32, AccessFault>
 {
     number_at(memory, at, Width::Long)
         .map(|number| number as u32)
-        .map_err(|cause| AccessFault {
-            access: Access::Fetch,
-            address: at,
-            width: Width::Long,
-            cause,
-        })
+        .map_err(|cause| cause.met_by(Access::Fetch, at, Width::Long))
 }
 
-// The number in the cells from an address on. Always inlined, so that a fetch, whose width is fixed, has no branch on
+// The number in the cells from an address on. Address and width are the operands of an access, and go together below
+// as they come: a struct of them would be made for each access, and taken apart in each function. That the number is
+// below a bound of its width is said where it is made, since no type of the library has such a bound. Always inlined, so that a fetch, whose width is fixed, has no branch on
 // the width.
 #[inline(always)]
 fn number_at<M: Memory>(memory: &M, at: u64, width: Width) -> Result<u64, Cause>

@@ -10,7 +10,8 @@ use crate::fault::{Access, AccessFault, Cause};
 use arith::width::Width;
 use memory::cells::{CellFault, Memory};
 
-// Stores the low bytes of a value into the cells from an address on, all or none.
+// Stores the low bytes of a value into the cells from an address on, all or none. What is kept is said of before and
+// after, here and below, which no type can carry.
 pub fn store<M: Memory>(
     memory: &mut M,
     at: u64,
@@ -22,12 +23,7 @@ pub fn store<M: Memory>(
     ensures kept { Kept M.marks M.loans memory.old memory.new }
     ensures laws { Stores (M.marks memory.old) (M.cells memory.old) (M.cells memory.new) at width value result }
 {
-    ask(memory, at, width).map_err(|cause| AccessFault {
-        access: Access::Store,
-        address: at,
-        width,
-        cause,
-    })?;
+    ask(memory, at, width).map_err(|cause| cause.met_by(Access::Store, at, width))?;
     put(memory, at, width, value);
     Ok(())
 }

@@ -99,7 +99,7 @@ fn told(answer: Answer, said: Result<(), console::Refusal>) -> Answer
     ensures { reply_of result ≡ replied (reply_of answer) (numbered said) }
 {
     said.map_or_else(
-        |refusal| Answer::Refused(Refusal::Console(refusal)),
+        |refusal| Answer::Refused(Refusal::from(refusal)),
         |_| answer,
     )
 }

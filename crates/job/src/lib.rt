@@ -2,6 +2,7 @@
 #![tactic(auto)]
 
 ghost use Rattle.std.specs.Prelude.{◌≡◌, replicate};
+ghost use Rattle.job.specs.declared.Refusal.{Refusal};
 ghost use Rattle.job.specs.Jobs.{first_job, stop_of, paused_at, ended_at, RunSo};
 ghost use Rattle.machine.specs.Parts.{parts, KeepsParts};
 
@@ -28,7 +29,7 @@ pub enum Reason {
     Full,
 }
 
-// Why a run stopped.
+// Why a run stopped. The three reasons stand beside the ending, since each rule on why a run stops tells all four apart.
 #[derive(Clone, Copy, PartialEq, Eq, Debug)]
 pub enum Stop {
     Spent,
@@ -80,6 +81,14 @@ pub const MOST_BUDGET: u64 = 1_000_000_000;
 
 // The most steps of a job.
 pub const MOST_COUNT: u64 = 1_000_000_000_000;
+
+impl From<console::Refusal> for Refusal {
+    ghost from_gives = { λ said r. r ≡ Refusal.Console said };
+
+    fn from(said: console::Refusal) -> Refusal {
+        Refusal::Console(said)
+    }
+}
 
 impl From<Reason> for Stop {
     ghost from_gives = { λ reason r. r ≡ stop_of reason };

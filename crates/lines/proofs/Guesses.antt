@@ -1,10 +1,11 @@
 -- The line of an instruction is taken for its word.
-use Rattle.std.proofs.Common.{◌≡◌, ℕ, ◌+◌, ◌*◌, ◌/◌, ◌%◌, ◌^◌, ◌<◌, false, cond, eqb, List, [], ◌∷◌, get_or, ℤ, pos, negsuc, ◌*ℤ◌, Some, None, decimal, Option, sym, refl, ap, ◌∙◌, subst, ⊎_elim, arith, w8, w16, w32, to_z, of_z}
+use Rattle.std.proofs.Common.{◌≡◌, ℕ, ◌+◌, ◌*◌, ◌/◌, ◌%◌, ◌^◌, ◌<◌, false, cond, eqb, List, [], ◌∷◌, get_or, ℤ, pos, negsuc, ◌*ℤ◌, Some, None, Bool, true, Decides, decimal, Option, sym, refl, ap, ◌∙◌, subst, ⊎_elim, arith, w8, w16, w32, to_z, of_z}
+use Rattle.std.specs.Bool.{then_some}
 use Rattle.std.specs.Int.Signed.{mag}
 use Rattle.std.specs.Fmt.{signed_decimal}
 use Rattle.std.proofs.lemmas.Fmt.{decimal_digit}
 use Rattle.std.proofs.lemmas.Option.{none-some, cond_some}
-use Rattle.std.proofs.lemmas.Bool.{cases_lt, eqb-true}
+use Rattle.std.proofs.lemmas.Bool.{both_ways, cases_lt, eqb-true}
 use Rattle.std.proofs.lemmas.Bool.Decides.{nat_tests}
 use Rattle.arith.specs.declared.width.Width.{Width}
 use Rattle.isa.specs.declared.opcode.Opcode.{Opcode}
@@ -179,6 +180,12 @@ none_decoded text w e d j h l = none-some _ (only text w None e d j h l)
 
 pub one_decoded : (text w : List ℕ) (i : Instruction) → taken_for text ≡ Some w → decoded w ≡ Some i → (j : Instruction) → Formed j → line_of j ≡ text → j ≡ i
 one_decoded text w i e d j h l = sym (same_some (only text w (Some i) e d j h l))
+
+-- a text read by a test of the instruction that is guessed
+pub read_by : (text : List ℕ) (i : Instruction) (b : Bool) → Decides b (line_of i ≡ text) → Formed i
+    → ((j : Instruction) → Formed j → line_of j ≡ text → j ≡ i) → Reads text (then_some b i)
+read_by text i true d f only = (f, d.0 refl, only)
+read_by text i false d f only = λ j h e. both_ways _ refl (d.1 (ap line_of (sym (only j h e)) ∙ e))
 
 -- a legal word that has a line, by its instruction
 of_word : (v text : List ℕ) → IsWord v → HasLine v text → (j : Instruction) × Formed j × (encoded j ≡ v) × (line_of j ≡ text)

@@ -19,7 +19,7 @@ pub enum Argument {
     Displaced(i8, u8),
 }
 
-// As an enum: a list would need a heap, or a buffer with blank operands.
+// As an enum, which says how many there are: a vector of three would be filled by pushes that can be refused.
 #[derive(Clone, Copy, PartialEq, Eq, Debug)]
 pub enum Arguments {
     Zero,

@@ -1,5 +1,5 @@
 // A line of text.
-ghost use Rattle.std.specs.Prelude.{◌≡◌, []};
+ghost use Rattle.std.specs.Prelude.{◌≡◌, ◌≤◌, [], length};
 ghost use Rattle.lines.specs.Texts.{clipped};
 
 use arrayvec::ArrayVec;
@@ -32,7 +32,8 @@ impl Line {
 
     // The text of the line.
     pub fn as_slice(&self) -> &[u8]
-        ensures { result.now ≡ self.now }
+        ensures text { result.now ≡ self.now }
+        ensures short { length result.now ≤ 64 }
     {
         self.text.as_slice()
     }

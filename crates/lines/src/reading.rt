@@ -66,7 +66,7 @@ fn named(text: &[u8]) -> Option<Opcode>
     BASES.iter().find(|base| name(**base) == text).copied()
 }
 
-// Whether a text is the name of an instruction.
+// Whether a text is the name of an instruction. `Decides` is the library's word for that, here and below.
 #[tactic(auto, using(crate::proofs::Searches::name_decided))]
 pub fn is_name(text: &[u8]) -> bool
     ensures { Decides result (IsName text.now) }
@@ -143,6 +143,7 @@ impl Pieces<'_> {
         }
     }
 
+    // The fields X, Y and Z are a triple here and below, as an instruction gives them.
     fn three_registers(&self) -> (u8, u8, u8)
         ensures { result ≡ three_registers self.now }
     {
@@ -243,9 +244,5 @@ pub fn read_line(text: &[u8]) -> Option<Instruction>
     ensures { Reads text.now result }
 {
     let instruction = decode(guess(text)?)?;
-    if is_line(instruction, text) {
-        Some(instruction)
-    } else {
-        None
-    }
+    is_line(instruction, text).then_some(instruction)
 }

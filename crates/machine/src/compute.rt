@@ -47,6 +47,8 @@ fn divide_signed_into(bank: &mut Bank, flags: Flags, a: u64, b: u8, to: u8) -> R
     Ok(flags)
 }
 
+// Does an operation. Which one is told by the instruction, so it is found by a match. It and the functions above give
+// the flags after them, as the rules do, and so take those before them beside the bank.
 pub(crate) fn compute(
     bank: &mut Bank,
     flags: Flags,

@@ -27,7 +27,7 @@ use isa::opcode::Condition;
 use memory::cells::Memory;
 
 // The instruction that is tried: its place, its word, and the flags before it.
-#[derive(Clone, Copy)]
+#[derive(Clone, Copy, PartialEq, Eq, Debug)]
 pub(crate) struct Site {
     pub(crate) place: u64,
     pub(crate) word: u32,
@@ -76,8 +76,7 @@ impl Site {
         ensures regs { bank.new.regs ≡ with_reg bank.old.regs to value }
         ensures answer { result ≡ Tried.Went (sum self.place 4) self.flags }
     {
-        bank.write(to, value);
-        self.next(self.flags)
+        self.set_both((value, self.flags), to, bank)
     }
 
     fn jump(self, when: Condition, distance: Distance) -> Tried

@@ -16,6 +16,7 @@ pub enum Cause {
     HighNotZero,
 }
 
+// By hand, since contracts say what `?` makes of an access's fault.
 impl From<AccessFault> for Cause {
     ghost from_gives = { λ access r. r ≡ Cause.Access access };
 
@@ -24,7 +25,8 @@ impl From<AccessFault> for Cause {
     }
 }
 
-// A cause with the place of the instruction and its word, which is 0 where none was fetched.
+// A cause with the place of the instruction and its word. Where none was fetched the word is 0, no Option, by the rule
+// for faults.
 #[derive(Clone, Copy, PartialEq, Eq, Debug)]
 pub struct Fault {
     pub cause: Cause,

@@ -35,6 +35,7 @@ pub(crate) fn load_into<M: Memory>(
     Ok(flags)
 }
 
+// What the memory keeps is said of before and after, which no type can carry.
 pub(crate) fn store_from<M: Memory>(
     bank: &Bank,
     memory: &mut M,

@@ -52,7 +52,8 @@ pub trait Memory {
     fn writable(&self, at: u64) -> Result<(), CellFault>
         ensures { result ≡ write_says (marks self.now) at };
 
-    // Sets the cell at an address if it is marked, and nothing else.
+    // Sets the cell at an address if it is marked, and nothing else. What is kept is said of before and after, which no
+    // type can carry.
     fn write(&mut self, at: u64, byte: u8) -> Result<(), CellFault>
         ensures answer { result ≡ write_says (marks self.old) at }
         ensures after { cells self.new ≡ after_write (marks self.old) (cells self.old) at byte }

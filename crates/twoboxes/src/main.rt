@@ -52,7 +52,7 @@ const WHOLE: &[u8] =
     b"Two boxes read one document.\nAnd each has its own way to read it.\nMemories of one may be joined from two.\nPieces are fed to the other as they come.\nEvery key that they print is the same.\nDone.\n";
 
 // What a job came to: its key, the steps that it made, and the code that it halted with.
-#[derive(Clone, Copy, PartialEq, Eq)]
+#[derive(Clone, Copy, PartialEq, Eq, Debug)]
 struct Report {
     taken: usize,
     count: u64,
