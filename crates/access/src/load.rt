@@ -35,14 +35,15 @@ pub fn fetch<M: Memory>(memory: &M, at: u64) -> Result<u32, AccessFault>
 
 // The number in the cells from an address on. Address and width are the operands of an access, and go together below
 // as they come: a struct of them would be made for each access, and taken apart in each function. That the number is
-// below a bound of its width is said where it is made, since no type of the library has such a bound. Always inlined, so that a fetch, whose width is fixed, has no branch on
-// the width.
+// below a bound of its width is said where it is made, since no type of the library has such a bound.
+// Always inlined, so that a fetch, whose width is fixed, has no branch on the width.
 #[inline(always)]
 fn number_at<M: Memory>(memory: &M, at: u64, width: Width) -> Result<u64, Cause>
     ensures value { result ≡ found (M.cells memory.now) at (bytes_of width) }
     ensures small { IfOk result (λ n. n < 2 ^ (8 * bytes_of width)) }
 {
     check_aligned(at, width)?;
+    // A match: map_or_else would put the slower way, which is the longer, before the faster.
     match leading(memory.stretch(at), width) {
         Some(number) => Ok(number),
         None => one_by_one(memory, at, width),

@@ -104,8 +104,9 @@ fn told(answer: Answer, said: Result<(), console::Refusal>) -> Answer
     )
 }
 
-// Where takes put their bytes: a lent buffer, of which so many bytes are filled. That they are within the buffer is said
-// at each call: a ghost field beside the `&mut` would hide from the lender what the buffer holds.
+// Where takes put their bytes: one lent buffer, by the rule on takes, so how much of it is filled stands beside it.
+// That it is filled within the buffer is said at each call: a ghost field beside the `&mut` would hide from the lender
+// what the buffer holds.
 #[derive(Drop)]
 struct Takings<'a> {
     buffer: &'a mut [u8],

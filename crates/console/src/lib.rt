@@ -5,8 +5,8 @@ ghost use Rattle.std.specs.Prelude.{◌≡◌, ◌++◌, length, take, drop};
 ghost use Rattle.console.specs.Refusals.{numbered};
 ghost use Rattle.console.specs.Streams.{Con, read_says, after_read, put_says, after_put, feed_says, after_feed, close_says, after_close, take_says, after_take};
 
-// What a read says: a byte, that no more will come, or that none has come yet. Three answers, each with its name: the end is
-// no error, since a machine goes on at it, and an Option in a Poll would leave it to the reader which nothing is which.
+// What a read says: a byte, that no more will come, or that none has come yet. Three answers, each with its name: the
+// end is no error, since a machine goes on at it, and an Option in a Poll would not say which nothing is which.
 #[derive(Clone, Copy, PartialEq, Eq, Debug)]
 pub enum ReadAnswer {
     Byte(u8),
@@ -18,8 +18,8 @@ pub enum ReadAnswer {
 #[derive(Clone, Copy, PartialEq, Eq, Debug)]
 pub struct Full;
 
-// Why a call is refused: the input is closed, there are more bytes than space, or a slice is above 65,536 bytes. Clauses tell
-// refusals by numbers, since those are one list for the calls of all crates.
+// Why a call is refused: the input is closed, there are more bytes than space, or a slice is above 65,536 bytes. Clauses
+// tell refusals by numbers, since those are one list for the calls of all crates.
 #[derive(Clone, Copy, PartialEq, Eq, Debug)]
 pub enum Refusal {
     Closed,

@@ -8,6 +8,7 @@ use console::Refusal;
 // The most bytes that a slice may have.
 const MOST: usize = 65536;
 
+// A truth value: it decides what is usable as well as what is refused.
 fn fits(input: usize, output: usize) -> bool
     ensures { result ≡ fit input output }
 {
@@ -25,8 +26,8 @@ pub(crate) fn usable(input: usize, output: usize) -> (usize, usize)
     }
 }
 
-// Refuses the slices of a tray or a page where one has more than 65,536 bytes. Made all the same, the tray or page takes both
-// as empty.
+// Refuses the slices of a tray or a page where one has more than 65,536 bytes. Made all the same, the tray or page takes
+// both as empty.
 pub fn check(input: &[u8], output: &[u8]) -> Result<(), Refusal>
     ensures { numbered result ≡ check_says (length input.now) (length output.now) }
 {

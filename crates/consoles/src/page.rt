@@ -15,8 +15,8 @@ pub struct Page<'d, 'o> {
 }
 
 impl<'d, 'o> Page<'d, 'o> {
-    // The whole document waits, and no more can come; the lengths of the slices are its limits. Where `check` refuses them, both
-    // are taken as empty.
+    // The whole document waits, and no more can come; the lengths of the slices are its limits. Where `check` refuses
+    // them, both are taken as empty.
     pub fn new(document: &'d [u8], output: &'o mut [u8]) -> Page<'d, 'o>
         ensures { page_view result ≡ new_page document.now (length output.old) }
     {

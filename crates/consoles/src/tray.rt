@@ -38,8 +38,8 @@ impl Console for Tray<'_, '_> {
         }
     }
 
-    // A page puts and takes by the same two calls on its ring; a type for both would have their reading, feeding and closing
-    // as parameters, and be longer than these two lines.
+    // A page puts and takes by the same two calls on its ring; a type for both would have their reading, feeding and
+    // closing as parameters, and be longer than these two lines.
     fn put(&mut self, byte: u8) -> Result<(), Full> {
         self.output.push(byte).map_err(|_| Full)
     }

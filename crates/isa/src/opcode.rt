@@ -149,6 +149,7 @@ fn load_base(reach: Reach) -> u8
     }
 }
 
+// A table for each part, and no trait: each is called in one place.
 fn kind_code(kind: Kind) -> u8
     ensures { result ≡ kind_code kind }
 {

@@ -29,7 +29,8 @@ pub enum Reason {
     Full,
 }
 
-// Why a run stopped. The three reasons stand beside the ending, since each rule on why a run stops tells all four apart.
+// Why a run stopped. The three reasons stand beside the ending, since each rule on why a run stops tells all four
+// apart.
 #[derive(Clone, Copy, PartialEq, Eq, Debug)]
 pub enum Stop {
     Spent,
@@ -182,7 +183,8 @@ impl Paused {
         }
         let Paused { mut at } = self;
         let mut steps = 0;
-        // The outcome is the loop's own value, given by `break`: a `for` over the steps has none.
+        // The outcome is the loop's own value. A `for` over the steps has none, and each of the five ways out would be a
+        // `return` of its own.
         let outcome = loop {
             if steps >= budget {
                 break at.paused(Reason::Spent);

@@ -33,22 +33,14 @@ pub enum Tried {
 fn word_at<M: Memory>(memory: &M, place: u64) -> Result<u32, Fault>
     ensures { result ≡ word_at place (fetched (M.cells memory.now) place) }
 {
-    fetch(memory, place).map_err(|fault| Fault {
-        cause: Cause::Access(fault),
-        place,
-        word: 0,
-    })
+    fetch(memory, place).map_err(|fault| Cause::Access(fault).met_at(place, 0))
 }
 
 // The instruction that a word stands for, if it is legal.
 fn instruction_of(place: u64, word: u32) -> Result<Instruction, Fault>
     ensures { result ≡ legal place word (decoded (bytes_in word)) }
 {
-    decode(word.to_be_bytes()).ok_or(Fault {
-        cause: Cause::Illegal,
-        place,
-        word,
-    })
+    decode(word.to_be_bytes()).ok_or(Cause::Illegal.met_at(place, word))
 }
 
 impl<M: Memory, C: Console> Machine<'_, '_, '_, M, C> {

@@ -4,7 +4,6 @@ ghost use Rattle.arith.specs.Whole.{u, word as word_for, sum};
 ghost use Rattle.isa.specs.Distances.{words_of};
 ghost use Rattle.machine.specs.declared.attempt.Tried.{Tried};
 ghost use Rattle.machine.specs.Effects.{taken};
-ghost use Rattle.machine.specs.Faults.{fault_at};
 ghost use Rattle.machine.specs.Leavings.{Executed, settled, heard, put_tried};
 ghost use Rattle.machine.specs.Parts.{parts, KeepsParts};
 ghost use Rattle.machine.specs.Registers.{reg, with_reg};
@@ -42,22 +41,11 @@ impl Site {
         Tried::Went(self.place.wrapping_add(4), flags)
     }
 
-    // A fault here.
-    pub(crate) fn fault(self, cause: Cause) -> Fault
-        ensures { result ≡ fault_at cause self.place self.word }
-    {
-        Fault {
-            cause,
-            place: self.place,
-            word: self.word,
-        }
-    }
-
     // On to the next word, or a fault here.
     fn settle(self, outcome: Result<Flags, Cause>) -> Result<Tried, Fault>
         ensures { result ≡ settled self.place self.word outcome }
     {
-        let flags = outcome.map_err(|cause| self.fault(cause))?;
+        let flags = outcome.map_err(|cause| cause.met_at(self.place, self.word))?;
         Ok(self.next(flags))
     }
 

@@ -1,6 +1,6 @@
 // Why an instruction is not done.
 ghost use Rattle.std.specs.Prelude.{◌≡◌};
-ghost use Rattle.machine.specs.Faults.{number};
+ghost use Rattle.machine.specs.Faults.{fault_at, number};
 ghost use Rattle.machine.specs.declared.fault.Cause.{Cause};
 
 use access::fault::AccessFault;
@@ -32,6 +32,19 @@ pub struct Fault {
     pub cause: Cause,
     pub place: u64,
     pub word: u32,
+}
+
+impl Cause {
+    // The fault of an instruction that met it.
+    pub(crate) fn met_at(self, place: u64, word: u32) -> Fault
+        ensures { result ≡ fault_at self place word }
+    {
+        Fault {
+            cause: self,
+            place,
+            word,
+        }
+    }
 }
 
 impl Fault {

@@ -1,4 +1,4 @@
-// Loads into and stores from registers: each gives the flags, which stay, or why it is a fault.
+// Loads into and stores from registers: each gives the flags, which stay, or why it is a fault, as the rules do.
 ghost use Rattle.std.specs.Prelude.{◌≡◌};
 ghost use Rattle.arith.specs.Widths.{bytes_of};
 ghost use Rattle.access.specs.Transfers.{loaded, store_says, after_store};

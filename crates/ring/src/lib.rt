@@ -32,8 +32,8 @@ impl<'a> Model for Ring<'a> {
     ghost invariant = { λ r. (r.start ≤ length r.bytes.now - 1) × (r.len ≤ length r.bytes.now) };
 }
 
-// The place in a buffer of `total` bytes that lies `offset` past `start`, around the end. No remainder, which would be by
-// 0 at an empty buffer.
+// The place in a buffer of `total` bytes that lies `offset` past `start`, around the end. No remainder, which would be
+// by 0 at an empty buffer.
 fn place(start: usize, offset: usize, total: usize) -> usize
     requires start { start ≤ total - 1 }
     requires offset { offset ≤ total }
@@ -113,8 +113,8 @@ impl<'a> Ring<'a> {
         Some(byte)
     }
 
-    // All the bytes at the end, or none of them if they do not fit. Who holds a queue learns here that it never has more
-    // than it can hold.
+    // All the bytes at the end, or none of them if they do not fit. Who holds a queue learns here that it never has
+    // more than it can hold.
     pub fn append(&mut self, more: &[u8]) -> Result<(), NoRoom>
         ensures within { length self.old.items ≤ self.old.size }
         ensures answer { result ≡ append_says self.old more.now }

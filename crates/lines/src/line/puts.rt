@@ -1,5 +1,5 @@
-// Writing the operands of an instruction into a line. Not through Display: what prints by write! may answer an error, and
-// a line is always written.
+// Writing the operands of an instruction into a line. Not through Display: what prints by write! may answer an error,
+// and a line is always written.
 #![tactic(auto, using(crate::proofs::Clips::clipped_twice))]
 
 ghost use Rattle.std.specs.Prelude.{◌≡◌};
