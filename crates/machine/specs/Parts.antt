@@ -2,7 +2,7 @@
 -- Assumes nothing.
 use Rattle.std.specs.Prelude.{◌≡◌, ℕ, Bool, List}
 use Rattle.arith.specs.declared.flags.Flags.{Flags}
-use Rattle.memory.specs.Slices.{Loans}
+use Rattle.memory.specs.Slices.{Loans, Kept}
 use Rattle.console.specs.Streams.{Con}
 use Rattle.machine.specs.Cores.{Core, core_of}
 use Rattle.machine.specs.Steps.{State, living}
@@ -30,8 +30,7 @@ pub record KeepsParts {M C : Type 0} (marks : M → List Bool) (loans : M → Lo
   pub same_bank : new.bank.ghost_name ≡ old.bank.ghost_name
   pub same_memory : new.memory.ghost_name ≡ old.memory.ghost_name
   pub same_console : new.console.ghost_name ≡ old.console.ghost_name
-  pub same_marks : marks new.memory.now ≡ marks old.memory.now
-  pub same_loans : loans new.memory.now ≡ loans old.memory.now
+  pub kept : Kept marks loans old.memory.now new.memory.now
 
 -- the core and the state of such a machine at a place, with flags
 abbrev pub core_at : Parts → ℕ → Flags → Core
