@@ -12,7 +12,7 @@ far_left b a h =
     ∙ ap (λ k. k % 2 ^ 64) (sym (mul_assoc b (2 ^ (a - 64)) (2 ^ 64)))
     ∙ mul-mod_left (b * 2 ^ (a - 64)) (2 ^ 64)
 
-all_out : (b k a : ℕ) → b < 2 ^ k → k ≤ a → b / 2 ^ a ≡ 0
+pub all_out : (b k a : ℕ) → b < 2 ^ k → k ≤ a → b / 2 ^ a ≡ 0
 all_out b k a h g = div-eq_of_lt (lt_of_lt_of_le h (pow-le-pow_right (lit< tt) g))
 
 pub far_right : (b a : ℕ) → b < 2 ^ 64 → 64 ≤ a → b / 2 ^ a ≡ 0

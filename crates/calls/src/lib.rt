@@ -4,11 +4,12 @@
 ghost use Rattle.std.specs.Prelude.{◌≡◌, ◌≤◌, length};
 ghost use Rattle.console.specs.Refusals.{numbered};
 ghost use Rattle.calls.specs.Calls.{ask_of, asks_of, replied, reply_of};
-ghost use Rattle.calls.specs.Posts.{scene_on, numbers_of, ending_of, RanOn, TookSo, MadeSo, PerformSo};
+ghost use Rattle.calls.specs.Posts.{scene, scene_on, numbers_of, ending_of, RanOn, TookSo, MadeSo, PerformSo};
 ghost use Rattle.machine.specs.Parts.{parts, KeepsParts};
 
 use console::Console;
 use job::{Ended, Numbers, Outcome, Paused, Ran, Refusal, Refused, Stop};
+use machine::bank::Bank;
 use machine::ending::Ending;
 use machine::parts::Machine;
 use memory::cells::Memory;
@@ -175,4 +176,27 @@ pub fn perform<M: Memory, C: Console>(
         answers,
         taken: takings.filled,
     })
+}
+
+// The same on parts that are lent by themselves, for the callers that `attempt` of `machine` is for.
+pub fn perform_on<M: Memory, C: Console>(
+    heap: Global,
+    bank: &mut Bank,
+    memory: &mut M,
+    console: &mut C,
+    calls: &[Call<'_>],
+    taken: &mut [u8],
+) -> Result<Performed, AllocError>
+    ensures { PerformSo
+        (scene (M.marks memory.old) (M.loans memory.old) (M.cells memory.old) (C.view console.old) bank.old.regs taken.old)
+        (asks_of calls.now)
+        (scene (M.marks memory.new) (M.loans memory.new) (M.cells memory.new) (C.view console.new) bank.new.regs taken.new)
+        result }
+{
+    let mut machine = Machine {
+        bank,
+        memory,
+        console,
+    };
+    perform(heap, &mut machine, calls, taken)
 }

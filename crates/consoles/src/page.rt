@@ -6,11 +6,13 @@ use crate::limits::usable;
 use console::{Console, Full, ReadAnswer, Refusal};
 use ring::Ring;
 
-// What is left of the document waits; the whole is kept for its length, the input limit.
+// What stands from `at` on in the document waits; its length is the input limit. A number beside the document, and not
+// the part of it that is left: that no more waits than the document has is then so of every page, with no invariant,
+// which a struct that holds a `&mut` and is to lie in another cannot have.
 #[derive(Drop)]
 pub struct Page<'d, 'o> {
     document: &'d [u8],
-    waiting: &'d [u8],
+    at: usize,
     output: Ring<'o>,
 }
 
@@ -21,10 +23,9 @@ impl<'d, 'o> Page<'d, 'o> {
         ensures { page_view result ≡ new_page document.now (length output.old) }
     {
         let (most_in, most_out) = usable(document.len(), output.len());
-        let document = &document[..most_in];
         Page {
-            document,
-            waiting: document,
+            document: &document[..most_in],
+            at: 0,
             output: Ring::new(&mut output[..most_out]),
         }
     }
@@ -34,10 +35,10 @@ impl Console for Page<'_, '_> {
     ghost view = { λ p. page_view p };
 
     fn read(&mut self) -> ReadAnswer {
-        let Some((&byte, rest)) = self.waiting.split_first() else {
+        let Some(&byte) = self.document.get(self.at) else {
             return ReadAnswer::End;
         };
-        self.waiting = rest;
+        self.at += 1;
         ReadAnswer::Byte(byte)
     }
 

@@ -4,7 +4,7 @@
 ghost use Rattle.std.specs.Prelude.{◌≡◌, replicate};
 ghost use Rattle.job.specs.declared.Refusal.{Refusal};
 ghost use Rattle.job.specs.Jobs.{first_job, stop_of, paused_at, ended_at, RunSo};
-ghost use Rattle.machine.specs.Parts.{parts, KeepsParts};
+ghost use Rattle.machine.specs.Parts.{parts, parts_of, KeepsParts};
 
 use arith::flags::Flags;
 use console::Console;
@@ -214,5 +214,29 @@ impl Paused {
             }
         };
         Ok(Ran { steps, outcome })
+    }
+
+    // The same on parts that are lent by themselves, for the callers that `attempt` of `machine` is for.
+    pub fn run_on<M: Memory, C: Console>(
+        self,
+        bank: &mut Bank,
+        memory: &mut M,
+        console: &mut C,
+        budget: u64,
+    ) -> Result<Ran, Refused>
+        ensures marks { M.marks memory.new ≡ M.marks memory.old }
+        ensures loans { M.loans memory.new ≡ M.loans memory.old }
+        ensures ran { RunSo self
+            (parts_of (M.marks memory.old) (M.loans memory.old) bank.old.regs (M.cells memory.old) (C.view console.old))
+            budget
+            (parts_of (M.marks memory.new) (M.loans memory.new) bank.new.regs (M.cells memory.new) (C.view console.new))
+            result }
+    {
+        let mut machine = Machine {
+            bank,
+            memory,
+            console,
+        };
+        self.run(&mut machine, budget)
     }
 }

@@ -1,6 +1,6 @@
 -- Putting text after text into a line.
-use Rattle.std.proofs.Common.{◌≡◌, ℕ, zero, suc, ◌+◌, ◌≤◌, List, [], ◌∷◌, ◌++◌, length, take, min, sym, refl, ap, ◌∙◌, append_assoc, arith}
-use Rattle.std.proofs.lemmas.List.{take_all, take_min}
+use Rattle.std.proofs.Common.{◌≡◌, ℕ, zero, suc, ◌+◌, ◌<◌, ◌≤◌, List, [], ◌∷◌, ◌++◌, length, take, min, sym, refl, ap, ◌∙◌, append_assoc, arith}
+use Rattle.std.proofs.lemmas.List.{take_all, take_min, take_at, length-append}
 use Rattle.std.proofs.Math.Seq.{take-append-add}
 use Rattle.lines.specs.Texts.{clipped}
 
@@ -10,6 +10,15 @@ unfolding clipped
 put_room a b k h =
     let e : 64 ≡ length a + k = omega arith in
     ap (λ n. take n (a ++ b)) e ∙ take-append-add a b k ∙ ap (λ t. a ++ t) (sym (take_min k b))
+
+-- one byte, where it has room, and where it has none
+pub put_one : (a : List ℕ) (b : ℕ) → length a < 64 → clipped a (b ∷ []) ≡ a ++ b ∷ []
+unfolding clipped
+put_one a b h = take_all 64 (a ++ b ∷ []) (rw length-append (omega arith))
+
+pub put_none : (a : List ℕ) (b : ℕ) → length a ≡ 64 → clipped a (b ∷ []) ≡ a
+unfolding clipped
+put_none a b h = take_at a (b ∷ []) 64 h
 
 take-append-take : (n : ℕ) (a b : List ℕ) → take n (take n a ++ b) ≡ take n (a ++ b)
 take-append-take zero a b = refl

@@ -1,5 +1,5 @@
 // A line of text.
-ghost use Rattle.std.specs.Prelude.{◌≡◌, ◌≤◌, [], length};
+ghost use Rattle.std.specs.Prelude.{◌≡◌, ◌≤◌, [], ◌∷◌, length};
 ghost use Rattle.lines.specs.Texts.{clipped};
 
 use arrayvec::ArrayVec;
@@ -36,6 +36,13 @@ impl Line {
         ensures short { length result.now ≤ 64 }
     {
         self.text.as_slice()
+    }
+
+    // Puts one byte at the end, where it has room: for a byte by itself that is much cheaper than a text of one.
+    pub(crate) fn put_byte(&mut self, byte: u8)
+        ensures { self.new ≡ clipped self.old (byte ∷ []) }
+    {
+        let _fits = self.text.try_push(byte);
     }
 
     // Puts a text at the end; what has no room is left out.

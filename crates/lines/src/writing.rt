@@ -24,10 +24,7 @@ pub fn line(instruction: Instruction) -> Line
     let opcode = instruction.opcode();
     let (x, y, z) = instruction.fields();
     let mut line = Line::new();
-    line.put(b"(");
-    line.put(name(opcode));
-    line.put_arguments(arguments_of(opcode, x, y, z));
-    line.put(b")");
+    line.put_bracketed(name(opcode), arguments_of(opcode, x, y, z));
     line
 }
 

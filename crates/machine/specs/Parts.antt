@@ -16,14 +16,13 @@ pub record Parts : Type 0 where
   pub cells : List ℕ
   pub con : Con
 
+-- those parts as one value
+abbrev pub parts_of : List Bool → Loans → List ℕ → List ℕ → Con → Parts
+parts_of marks loans regs cells con = record { marks = marks; loans = loans; regs = regs; cells = cells; con = con }
+
+-- the parts of a machine
 abbrev pub parts : {M C : Type 0} → (M → List Bool) → (M → Loans) → (M → List ℕ) → (C → Con) → Machine M C → Parts
-parts marks loans cells view m = record {
-  marks = marks m.memory.now;
-  loans = loans m.memory.now;
-  regs = m.bank.now.regs;
-  cells = cells m.memory.now;
-  con = view m.console.now;
-}
+parts marks loans cells view m = parts_of (marks m.memory.now) (loans m.memory.now) m.bank.now.regs (cells m.memory.now) (view m.console.now)
 
 -- the machine has the parts that it had, and the marks and the loans of its memory are as they were
 pub record KeepsParts {M C : Type 0} (marks : M → List Bool) (loans : M → Loans) (old new : Machine M C) : Type 0 where

@@ -3,9 +3,12 @@ ghost use Rattle.std.specs.Prelude.{◌≡◌};
 ghost use Rattle.isa.specs.Words.{decoded};
 ghost use Rattle.machine.specs.Parts.{parts, KeepsParts};
 ghost use Rattle.access.specs.Transfers.{fetched};
+ghost use Rattle.machine.specs.Steps.{living, next};
+ghost use Rattle.machine.specs.Cores.{core_of};
 ghost use Rattle.machine.specs.Tries.{bytes_in, word_at, legal};
-ghost use Rattle.machine.specs.Tryings.{Attempted};
+ghost use Rattle.machine.specs.Tryings.{Attempted, Tells};
 
+use crate::bank::Bank;
 use crate::execute::Site;
 use crate::fault::{Cause, Fault};
 use crate::parts::Machine;
@@ -53,4 +56,28 @@ impl<M: Memory, C: Console> Machine<'_, '_, '_, M, C> {
         let instruction = instruction_of(place, word)?;
         self.execute(Site { place, word, flags }, instruction)
     }
+}
+
+// The same try on a bank, a memory and a console that are lent by themselves. For whoever joins slices that it is lent, or
+// makes a page or a tray of them: the checker does not cover a function that makes a `Machine` over such parts.
+pub fn attempt<M: Memory, C: Console>(
+    bank: &mut Bank,
+    memory: &mut M,
+    console: &mut C,
+    place: u64,
+    flags: Flags,
+) -> Result<Tried, Fault>
+    ensures marks { M.marks memory.new ≡ M.marks memory.old }
+    ensures loans { M.loans memory.new ≡ M.loans memory.old }
+    ensures tried { Tells
+        (next (M.marks memory.old) (living (core_of bank.old.regs flags place (M.cells memory.old)) (C.view console.old)))
+        (living (core_of bank.old.regs flags place (M.cells memory.old)) (C.view console.old))
+        bank.new.regs (M.cells memory.new) (C.view console.new) result }
+{
+    let mut machine = Machine {
+        bank,
+        memory,
+        console,
+    };
+    machine.attempt(place, flags)
 }

@@ -3,7 +3,8 @@
 use Rattle.std.proofs.Common.{◌≡◌, ℕ, ◌+◌, ◌-◌, ◌<◌, ◌≤◌, min, List, [], ◌∷◌, ◌++◌, length, get_or, take, drop, set, sym, ◌∙◌, ap, refl, arith}
 use Rattle.std.proofs.lemmas.List.{places, same_lists, length-take, length-drop, length-append, length-set, drop_more, take_at, drop_at, drop-set, take-set, drop-append-le, drop-drop}
 use Rattle.std.proofs.lemmas.Bool.Decides.{nat_tests}
-use Rattle.ring.specs.Queues.{Queue, queue, turned, ring_list, wrapped}
+use Rattle.ring.specs.Queues.{Queue, size, queue, turned, ring_list, wrapped}
+use Rattle.ring.specs.Calls.{with_items}
 
 -- how many bytes there are
 pub length-ring : (bytes : List ℕ) (start len : ℕ) → len ≤ length bytes → length (ring_list bytes start len) ≡ len
@@ -13,6 +14,18 @@ length-ring bytes start len h = simp (length-take, length-append, length-drop) (
 -- the same, of the queue that they are
 pub held : (bytes : List ℕ) (start len : ℕ) (q : Queue) → queue bytes start len ≡ q → len ≤ length bytes → length q.items ≡ len
 held bytes start len q e h = sym (ap (λ p. length p.items) e) ∙ length-ring bytes start len h
+
+-- how many bytes it can hold
+pub sized : (bytes : List ℕ) (start len : ℕ) → len ≤ length bytes → size (queue bytes start len) ≡ length bytes
+sized bytes start len h = omega (arith, length-ring bytes start len h)
+
+-- a queue in a buffer that is as large as another's is told by its bytes
+pub told : (bytes now : List ℕ) (start len start' len' : ℕ) (xs : List ℕ) → length now ≡ length bytes → len ≤ length bytes → len' ≤ length bytes → ring_list now start' len' ≡ xs → queue now start' len' ≡ with_items (queue bytes start len) xs
+told bytes now start len start' len' xs e l m p =
+    let count = length-ring bytes start len l in
+    let more : length xs ≡ len' = sym (ap length p) ∙ length-ring now start' len' (rw e m) in
+    let room : length now - len' ≡ (length (ring_list bytes start len) + (length bytes - len)) - length xs = omega (arith, count, more, e) in
+    cc (p, room)
 
 -- more written into a buffer of a lower and a higher part: k bytes into the higher, as many as fit, and the rest into the lower
 pub wrote : (low high more : List ℕ) (k : ℕ) → k ≡ min (length more) (length high) → length more ≤ length low + length high → let first = take k more in let rest = drop k more in turned ((rest ++ drop (length rest) low) ++ (first ++ drop (length first) high)) (length low) ≡ more ++ drop (length more) (high ++ low)

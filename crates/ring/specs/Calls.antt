@@ -1,19 +1,20 @@
 -- What each call on a queue answers and leaves.
 -- Assumes nothing.
-use Rattle.std.specs.Prelude.{ℕ, ◌+◌, min, Bool, cond, List, [], ◌∷◌, ◌++◌, length, drop, Some, None, Option, Ok, Err, Result, nat_le, nat_lt}
+use Rattle.std.specs.Prelude.{ℕ, ◌+◌, ◌-◌, min, Bool, cond, List, [], ◌∷◌, ◌++◌, length, drop, Some, None, Option, Ok, Err, Result, nat_le, nat_lt}
 use Rattle.ring.specs.declared.NoRoom.{NoRoom}
-use Rattle.ring.specs.Queues.{Queue}
+use Rattle.ring.specs.Queues.{Queue, size}
 
+-- with other bytes, of which it can hold as many as before
 abbrev pub with_items : Queue → List ℕ → Queue
-with_items q bs = record { items = bs; size = q.size }
+with_items q bs = record { items = bs; room = size q - length bs }
 
 -- a new one
 abbrev pub empty : ℕ → Queue
-empty n = record { items = []; size = n }
+empty n = record { items = []; room = n }
 
 -- push
 abbrev pub has_room : Queue → Bool
-has_room q = nat_lt (length q.items) q.size
+has_room q = nat_lt (length q.items) (size q)
 
 abbrev pub push_says : Queue → Result Unit NoRoom
 push_says q = cond (has_room q) (Ok tt) (Err (record {}))
@@ -38,7 +39,7 @@ after_pop q = with_items q (rest_of q.items)
 
 -- append: all the bytes or none
 abbrev pub fits : Queue → List ℕ → Bool
-fits q bs = nat_le (length q.items + length bs) q.size
+fits q bs = nat_le (length q.items + length bs) (size q)
 
 abbrev pub append_says : Queue → List ℕ → Result Unit NoRoom
 append_says q bs = cond (fits q bs) (Ok tt) (Err (record {}))

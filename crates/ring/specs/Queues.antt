@@ -1,11 +1,15 @@
 -- A queue, and how it lies in a buffer.
 -- Assumes nothing.
-use Rattle.std.specs.Prelude.{ℕ, ◌-◌, cond, List, ◌++◌, length, take, drop, nat_lt}
+use Rattle.std.specs.Prelude.{ℕ, ◌+◌, ◌-◌, cond, List, ◌++◌, length, take, drop, nat_lt}
 
--- the bytes in it, first to last, and how many it can hold
+-- the bytes in it, first to last, and how many more it has room for
 pub record Queue : Type 0 where
   pub items : List ℕ
-  pub size : ℕ
+  pub room : ℕ
+
+-- how many it can hold; so no queue has more than that
+abbrev pub size : Queue → ℕ
+size q = length q.items + q.room
 
 -- the buffer as it is read from start on, once around
 abbrev pub turned : List ℕ → ℕ → List ℕ
@@ -15,7 +19,7 @@ unfoldable pub ring_list : List ℕ → ℕ → ℕ → List ℕ
 ring_list bytes start len = take len (turned bytes start)
 
 abbrev pub queue : List ℕ → ℕ → ℕ → Queue
-queue bytes start len = record { items = ring_list bytes start len; size = length bytes }
+queue bytes start len = record { items = ring_list bytes start len; room = length bytes - len }
 
 -- a place below twice the size, brought below the size
 abbrev pub wrapped : ℕ → ℕ → ℕ

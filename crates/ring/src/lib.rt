@@ -3,7 +3,7 @@
 #![tactic(auto)]
 
 ghost use Rattle.std.specs.Prelude.{◌≡◌, ◌+◌, ◌-◌, ◌≤◌, ◌++◌, length, take, drop};
-ghost use Rattle.ring.specs.Queues.{turned, wrapped};
+ghost use Rattle.ring.specs.Queues.{size, turned, wrapped};
 ghost use Rattle.ring.specs.Calls.{empty, push_says, after_push, pop_says, after_pop, append_says, after_append, take_says, after_take};
 
 use std::marker::Model;
@@ -20,7 +20,7 @@ pub struct Ring<'a> {
     len: usize,
 }
 
-// Clauses see the bytes in the queue, first to last, and how many it can hold.
+// Clauses see the bytes in the queue, first to last, and how many more it has room for.
 impl<'a> Model for Ring<'a> {
     ghost use Rattle.std.specs.Prelude.{◌-◌, ◌≤◌, length};
     ghost use Rattle.ring.specs.Queues.{Queue, queue};
@@ -88,6 +88,7 @@ impl<'a> Ring<'a> {
     pub fn push(&mut self, byte: u8) -> Result<(), NoRoom>
         ensures answer { result ≡ push_says self.old }
         ensures after { self.new ≡ after_push self.old byte }
+        ensures size { size self.new ≡ size self.old }
     {
         let size = self.bytes.len();
         if self.len >= size {
@@ -103,6 +104,7 @@ impl<'a> Ring<'a> {
     pub fn pop(&mut self) -> Option<u8>
         ensures answer { result ≡ pop_says self.old }
         ensures after { self.new ≡ after_pop self.old }
+        ensures size { size self.new ≡ size self.old }
     {
         if self.len == 0 {
             return None;
@@ -116,9 +118,10 @@ impl<'a> Ring<'a> {
     // All the bytes at the end, or none of them if they do not fit. Who holds a queue learns here that it never has
     // more than it can hold.
     pub fn append(&mut self, more: &[u8]) -> Result<(), NoRoom>
-        ensures within { length self.old.items ≤ self.old.size }
+        ensures within { length self.old.items ≤ size self.old }
         ensures answer { result ≡ append_says self.old more.now }
         ensures after { self.new ≡ after_append self.old more.now }
+        ensures size { size self.new ≡ size self.old }
     {
         let size = self.bytes.len();
         if more.len() > size - self.len {
@@ -144,6 +147,7 @@ impl<'a> Ring<'a> {
     pub fn take(&mut self, into: &mut [u8]) -> usize
         ensures answer { result ≡ take_says self.old (length into.old) }
         ensures after { self.new ≡ after_take self.old result }
+        ensures size { size self.new ≡ size self.old }
         ensures moved { into.new ≡ take result self.old.items ++ drop result into.old }
     {
         let count = self.peek(into);

@@ -2,12 +2,13 @@
 #![tactic(auto)]
 
 ghost use Rattle.calls.specs.Calls.{asks_of};
-ghost use Rattle.calls.specs.Posts.{scene_on, PerformSo};
+ghost use Rattle.calls.specs.Posts.{scene, scene_on, PerformSo};
 ghost use Rattle.machine.specs.Parts.{KeepsParts};
 ghost use Rattle.twin.specs.Twins.{TwinsIf};
 
 use calls::{Call, Performed, perform};
 use console::Console;
+use machine::bank::Bank;
 use machine::parts::Machine;
 use memory::cells::Memory;
 use std::alloc::{AllocError, Global};
@@ -46,4 +47,50 @@ pub fn both<M: Memory, C: Console, N: Memory, D: Console>(
     let first = perform(heap, machine, calls, taken);
     let second = perform(heap, other, others, gone);
     (first, second)
+}
+
+// The same on parts that are lent by themselves, for the callers that `attempt` of `machine` is for.
+pub fn both_on<M: Memory, C: Console, N: Memory, D: Console>(
+    heap: Global,
+    bank: &mut Bank,
+    memory: &mut M,
+    console: &mut C,
+    calls: &[Call<'_>],
+    taken: &mut [u8],
+    other_bank: &mut Bank,
+    other_memory: &mut N,
+    other_console: &mut D,
+    others: &[Call<'_>],
+    gone: &mut [u8],
+) -> (Result<Performed, AllocError>, Result<Performed, AllocError>)
+    ensures first { PerformSo
+        (scene (M.marks memory.old) (M.loans memory.old) (M.cells memory.old) (C.view console.old) bank.old.regs taken.old)
+        (asks_of calls.now)
+        (scene (M.marks memory.new) (M.loans memory.new) (M.cells memory.new) (C.view console.new) bank.new.regs taken.new)
+        result.0 }
+    ensures second { PerformSo
+        (scene (N.marks other_memory.old) (N.loans other_memory.old) (N.cells other_memory.old) (D.view other_console.old) other_bank.old.regs gone.old)
+        (asks_of others.now)
+        (scene (N.marks other_memory.new) (N.loans other_memory.new) (N.cells other_memory.new) (D.view other_console.new) other_bank.new.regs gone.new)
+        result.1 }
+    ensures alike { TwinsIf
+        (scene (M.marks memory.old) (M.loans memory.old) (M.cells memory.old) (C.view console.old) bank.old.regs taken.old)
+        (scene (M.marks memory.new) (M.loans memory.new) (M.cells memory.new) (C.view console.new) bank.new.regs taken.new)
+        (asks_of calls.now)
+        (scene (N.marks other_memory.old) (N.loans other_memory.old) (N.cells other_memory.old) (D.view other_console.old) other_bank.old.regs gone.old)
+        (scene (N.marks other_memory.new) (N.loans other_memory.new) (N.cells other_memory.new) (D.view other_console.new) other_bank.new.regs gone.new)
+        (asks_of others.now)
+        result.0 result.1 }
+{
+    let mut machine = Machine {
+        bank,
+        memory,
+        console,
+    };
+    let mut second = Machine {
+        bank: other_bank,
+        memory: other_memory,
+        console: other_console,
+    };
+    both(heap, &mut machine, calls, taken, &mut second, others, gone)
 }

@@ -2,7 +2,7 @@
 // and a line is always written.
 #![tactic(auto, using(crate::proofs::Clips::clipped_twice))]
 
-ghost use Rattle.std.specs.Prelude.{◌≡◌};
+ghost use Rattle.std.specs.Prelude.{◌≡◌, ◌++◌, codes};
 ghost use Rattle.lines.specs.Lines.{register, written, spaced, trailing};
 ghost use Rattle.lines.specs.Texts.{clipped};
 
@@ -22,30 +22,30 @@ impl Line {
     fn put_register(&mut self, number: u8)
         ensures { self.new ≡ clipped self.old (register number) }
     {
-        self.put(b"%");
+        self.put_byte(b'%');
         self.put_number(number);
     }
 
     fn put_scaled(&mut self, base: u8, index: u8, scale: Scale)
         ensures { self.new ≡ clipped self.old (written (Argument.Scaled base index scale)) }
     {
-        self.put(b"(");
+        self.put_byte(b'(');
         self.put_register(base);
-        self.put(b" ");
+        self.put_byte(b' ');
         self.put_register(index);
-        self.put(b" ");
+        self.put_byte(b' ');
         self.put_number(scale.factor());
-        self.put(b")");
+        self.put_byte(b')');
     }
 
     fn put_displaced(&mut self, displacement: i8, base: u8)
         ensures { self.new ≡ clipped self.old (written (Argument.Displaced displacement base)) }
     {
-        self.put(b"(");
+        self.put_byte(b'(');
         self.put_number(displacement);
-        self.put(b" ");
+        self.put_byte(b' ');
         self.put_register(base);
-        self.put(b")");
+        self.put_byte(b')');
     }
 
     fn put_argument(&mut self, argument: Argument)
@@ -63,12 +63,12 @@ impl Line {
     fn put_next(&mut self, argument: Argument)
         ensures { self.new ≡ clipped self.old (spaced argument) }
     {
-        self.put(b" ");
+        self.put_byte(b' ');
         self.put_argument(argument);
     }
 
     // The operands, each after a space.
-    pub(crate) fn put_arguments(&mut self, arguments: Arguments)
+    fn put_arguments(&mut self, arguments: Arguments)
         ensures { self.new ≡ clipped self.old (trailing arguments) }
     {
         match arguments {
@@ -84,5 +84,15 @@ impl Line {
                 self.put_next(c);
             }
         }
+    }
+
+    // A name and the operands in brackets.
+    pub(crate) fn put_bracketed(&mut self, name: &[u8], arguments: Arguments)
+        ensures { self.new ≡ clipped self.old (codes "(" ++ name.now ++ trailing arguments ++ codes ")") }
+    {
+        self.put_byte(b'(');
+        self.put(name);
+        self.put_arguments(arguments);
+        self.put_byte(b')');
     }
 }

@@ -7,7 +7,7 @@ pub overflow_mul-number : goal.overflow_mul-number
 overflow_mul-number g c = record { fits = omega (arith, next_fits c.args.width c.loop-k.number c.loop-k.k 0 c.loop-k.invariant.1 (omega arith) (omega arith)) }
 
 pub overflow_add-number : goal.overflow_add-number
-overflow_add-number g c = record { fits = next_fits c.args.width c.loop-k.number c.loop-k.k _ c.loop-k.invariant.1 (omega arith) (omega arith) }
+overflow_add-number g c = record { fits = omega (arith, next_fits c.args.width c.loop-k.number c.loop-k.k c.from-in-loop-k.result c.loop-k.invariant.1 (omega arith) (omega arith)) }
 
 pub loop-k-preserved : goal.loop-k-preserved
 loop-k-preserved g c =
