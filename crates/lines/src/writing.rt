@@ -2,9 +2,7 @@
 ghost use Rattle.std.specs.Prelude.{◌≡◌};
 ghost use Rattle.lines.specs.Lines.{line_of, Writes};
 
-use crate::argument::arguments_of;
 use crate::line::Line;
-use crate::names::name;
 use isa::instruction::Instruction;
 
 // Why a line is not written.
@@ -24,7 +22,7 @@ pub fn line(instruction: Instruction) -> Line
     let opcode = instruction.opcode();
     let (x, y, z) = instruction.fields();
     let mut line = Line::new();
-    line.put_bracketed(name(opcode), arguments_of(opcode, x, y, z));
+    line.put_line(opcode, x, y, z);
     line
 }
 

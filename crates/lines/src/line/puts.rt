@@ -2,13 +2,14 @@
 // and a line is always written.
 #![tactic(auto, using(crate::proofs::Clips::clipped_twice))]
 
-ghost use Rattle.std.specs.Prelude.{◌≡◌, ◌++◌, codes};
-ghost use Rattle.lines.specs.Lines.{register, written, spaced, trailing};
+ghost use Rattle.std.specs.Prelude.{◌≡◌};
+ghost use Rattle.lines.specs.Lines.{register, written, spaced, trailing, line_with};
 ghost use Rattle.lines.specs.Texts.{clipped};
 
 use super::Line;
-use crate::argument::{Argument, Arguments};
-use isa::opcode::Scale;
+use crate::argument::{Argument, Arguments, arguments_of};
+use crate::names::name;
+use isa::opcode::{Opcode, Scale};
 use itoa::{Buffer, Integer};
 
 impl Line {
@@ -86,13 +87,13 @@ impl Line {
         }
     }
 
-    // A name and the operands in brackets.
-    pub(crate) fn put_bracketed(&mut self, name: &[u8], arguments: Arguments)
-        ensures { self.new ≡ clipped self.old (codes "(" ++ name.now ++ trailing arguments ++ codes ")") }
+    // The line of an opcode with the fields X, Y and Z.
+    pub(crate) fn put_line(&mut self, opcode: Opcode, x: u8, y: u8, z: u8)
+        ensures { self.new ≡ clipped self.old (line_with opcode x y z) }
     {
         self.put_byte(b'(');
-        self.put(name);
-        self.put_arguments(arguments);
+        self.put(name(opcode));
+        self.put_arguments(arguments_of(opcode, x, y, z));
         self.put_byte(b')');
     }
 }
