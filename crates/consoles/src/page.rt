@@ -7,8 +7,8 @@ use console::{Console, Full, ReadAnswer, Refusal};
 use ring::Ring;
 
 // What stands from `at` on in the document waits; its length is the input limit. A number beside the document, and not
-// the part of it that is left: that no more waits than the document has is then so of every page, with no invariant,
-// which a struct that holds a `&mut` and is to lie in another cannot have.
+// the part of it that is left: that no more waits than the document has is then so of every page by what it means. Two
+// slices would have to be tied by a fact that whoever is lent a page does not see.
 #[derive(Drop)]
 pub struct Page<'d, 'o> {
     document: &'d [u8],

@@ -4,7 +4,7 @@ use Rattle.std.specs.Prelude.{ℕ, ◌+◌, ◌-◌, min, Bool, cond, List, [], 
 use Rattle.ring.specs.declared.NoRoom.{NoRoom}
 use Rattle.ring.specs.Queues.{Queue, size}
 
--- with other bytes, of which it can hold as many as before
+-- with other bytes, no more than it can hold: it can then hold as many as before
 abbrev pub with_items : Queue → List ℕ → Queue
 with_items q bs = record { items = bs; room = size q - length bs }
 

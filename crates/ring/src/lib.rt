@@ -115,8 +115,8 @@ impl<'a> Ring<'a> {
         Some(byte)
     }
 
-    // All the bytes at the end, or none of them if they do not fit. Who holds a queue learns here that it never has
-    // more than it can hold.
+    // All the bytes at the end, or none of them if they do not fit. That a queue has no more than it can hold is so of
+    // any; the first clause says it again.
     pub fn append(&mut self, more: &[u8]) -> Result<(), NoRoom>
         ensures within { length self.old.items ≤ size self.old }
         ensures answer { result ≡ append_says self.old more.now }
